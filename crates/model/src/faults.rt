@@ -1,0 +1,157 @@
+//! Refusals: why a call was refused, with the number, the place and the layer of each case.
+ghost use mathlib.Core.Path.{_≡_};
+ghost use Rattle.model.specs.Refusals.{table-refusal};
+ghost use Rattle.model.specs.Text.{given-text, layer-text, refusal-text, table-fault-text};
+ghost use Rattle.std.specs.declared.option.Option.the-variants.{Some};
+use std::fmt;
+
+/// The part of the program that refuses.
+#[derive(Clone, Copy)]
+pub enum Layer {
+    Table,
+    Translation,
+    Machine,
+    Memory,
+    Console,
+}
+
+/// A refusal as it is reported: its number, its place and its layer.
+#[derive(Clone, Copy)]
+pub struct Refusal {
+    pub number: u8,
+    pub place: usize,
+    pub layer: Layer,
+}
+
+/// Which of the tables that a call takes.
+#[derive(Clone, Copy)]
+pub enum Given {
+    First,
+    Second,
+}
+
+/// Why a table is refused; `at` is a byte of the table, counted from 0.
+#[derive(Clone, Copy)]
+pub enum TableFault {
+    Length { length: usize },
+    Header { at: usize },
+    Entry { at: usize },
+    Op { at: usize },
+    Operand { at: usize },
+    WrongKind { table: Given },
+}
+
+impl TableFault {
+    /// Number, place and layer of the refusal.
+    pub fn refusal(&self) -> Refusal
+        ensures { λ r. ⌜ r ≡ table-refusal (now (self .entry)) ⌝ }
+    {
+        let layer = Layer::Table;
+        match *self {
+            TableFault::Length { length } => Refusal {
+                number: 1,
+                place: length,
+                layer,
+            },
+            TableFault::Header { at } => Refusal {
+                number: 2,
+                place: at,
+                layer,
+            },
+            TableFault::Entry { at } => Refusal {
+                number: 3,
+                place: at,
+                layer,
+            },
+            TableFault::Op { at } => Refusal {
+                number: 4,
+                place: at,
+                layer,
+            },
+            TableFault::Operand { at } => Refusal {
+                number: 5,
+                place: at,
+                layer,
+            },
+            TableFault::WrongKind {
+                table: Given::First,
+            } => Refusal {
+                number: 7,
+                place: 0,
+                layer,
+            },
+            TableFault::WrongKind {
+                table: Given::Second,
+            } => Refusal {
+                number: 7,
+                place: 1,
+                layer,
+            },
+        }
+    }
+}
+
+pub impl fmt::Display for Layer as LayerDisplay {
+    ghost shown = { λ l. Some (layer-text l) };
+
+    fn fmt<W: fmt::Write>(&self, f: &mut fmt::Formatter<W>) -> fmt::Result {
+        match *self {
+            Layer::Table => write!(f, "table"),
+            Layer::Translation => write!(f, "translation"),
+            Layer::Machine => write!(f, "machine"),
+            Layer::Memory => write!(f, "memory"),
+            Layer::Console => write!(f, "console"),
+        }
+    }
+}
+
+pub impl fmt::Display for Given as GivenDisplay {
+    ghost shown = { λ g. Some (given-text g) };
+
+    fn fmt<W: fmt::Write>(&self, f: &mut fmt::Formatter<W>) -> fmt::Result {
+        match *self {
+            Given::First => write!(f, "first"),
+            Given::Second => write!(f, "second"),
+        }
+    }
+}
+
+pub impl fmt::Display for Refusal as RefusalDisplay {
+    ghost shown = { λ r. Some (refusal-text r) };
+
+    fn fmt<W: fmt::Write>(&self, f: &mut fmt::Formatter<W>) -> fmt::Result {
+        let number = self.number;
+        let place = self.place;
+        let layer = self.layer;
+        write!(f, "refused {number} at {place} in {layer}")
+    }
+}
+
+pub impl fmt::Display for TableFault as TableFaultDisplay {
+    ghost shown = { λ t. Some (table-fault-text t) };
+
+    fn fmt<W: fmt::Write>(&self, f: &mut fmt::Formatter<W>) -> fmt::Result {
+        match *self {
+            TableFault::Length { length } => write!(
+                f,
+                "{length} bytes are not what the counts give"
+            ),
+            TableFault::Header { at } => write!(f, "byte {at} of the header is out of its range"),
+            TableFault::Entry { at } => {
+                write!(
+                    f,
+                    "the thread entry at byte {at} has a wrong position or a count out of its range"
+                )
+            }
+            TableFault::Op { at } => write!(
+                f,
+                "the op at byte {at} is unknown or of the other kind of table"
+            ),
+            TableFault::Operand { at } => write!(
+                f,
+                "the operand at byte {at} is out of its range or should be 0"
+            ),
+            TableFault::WrongKind { table } => write!(f, "the {table} table is of the wrong kind"),
+        }
+    }
+}

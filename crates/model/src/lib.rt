@@ -1,0 +1,5 @@
+//! The words of the subject: the types and the definitions that every other crate shares.
+
+pub mod code;
+pub mod faults;
+pub mod places;
