@@ -4,6 +4,8 @@ use mathlib.Core.Bool.{Bool, true, false, cond, _&&_}
 use mathlib.Core.List.{List, [], _∷_}
 use lib.Dec.{eqb, ltb, leb}
 use lib.ListN.{length, getD}
+use Rattle.std.specs.declared.option.Option.{Option}
+use Rattle.std.specs.Finite.{nth}
 use Rattle.std.specs.declared.result.Result.{Result}
 use Rattle.std.specs.declared.result.Result.the-variants.{Ok, Err}
 use Rattle.model.specs.Steps.{then}
@@ -15,6 +17,8 @@ use Rattle.model.specs.declared.code.Role.{Role}
 use Rattle.model.specs.declared.code.Role.the-variants.{Register, Word, Constant, Unused}
 use Rattle.model.specs.declared.code.Shape.{Shape}
 use Rattle.model.specs.declared.code.Limits.{Limits}
+use Rattle.model.specs.declared.places.Place.{Place}
+use Rattle.model.specs.declared.places.Place.the-variants as place
 use Rattle.model.specs.declared.faults.TableFault.{TableFault}
 use Rattle.model.specs.declared.faults.TableFault.the-variants.{Length, Header, Entry, Op, Operand, WrongKind}
 
@@ -172,22 +176,28 @@ header-fault bs =
     (λ _. then (demand (within 1 (getD bs 4 0) (most-registers k)) (Header 4))
     (λ _. demand (within (least-rounds k) (getD bs 5 0) (most-rounds k)) (Header 5))))))
 
+-- an entry has to name the position where the thread's code begins, and a count in range
+abbrev pub entry-fault : Kind → List ℕ → ℕ → ℕ → Checked
+entry-fault k bs thread at =
+    demand (eqb (position bs thread) at && within 1 (count bs thread) (most-instructions k)) (Entry (entry-at thread))
+
 -- the entries of so many threads from one on, whose code has to begin at a position: the end of all code
 abbrev pub entries-end : Kind → List ℕ → ℕ → ℕ → ℕ → Result ℕ TableFault
 entries-end k bs thread at zero = Ok at
 entries-end k bs thread at (suc n) =
-    then (demand (eqb (position bs thread) at && within 1 (count bs thread) (most-instructions k)) (Entry (entry-at thread)))
-    (λ _. entries-end k bs (thread + 1) (at + 6 * count bs thread) n)
+    then (entry-fault k bs thread at) (λ _. entries-end k bs (thread + 1) (at + 6 * count bs thread) n)
 
 abbrev pub limits : List ℕ → ℕ → Limits
 limits bs thread =
     record { ops = ops (kind-of (getD bs 1 0)); registers = getD bs 4 0; words = getD bs 3 0; count = count bs thread }
 
+abbrev pub thread-fault : List ℕ → ℕ → Checked
+thread-fault bs thread = code-fault (limits bs thread) bs (position bs thread) (count bs thread)
+
 -- the code of so many threads from one on
 abbrev pub codes-fault : List ℕ → ℕ → ℕ → Checked
 codes-fault bs thread zero = Ok tt
-codes-fault bs thread (suc n) =
-    then (code-fault (limits bs thread) bs (position bs thread) (count bs thread)) (λ _. codes-fault bs (thread + 1) n)
+codes-fault bs thread (suc n) = then (thread-fault bs thread) (λ _. codes-fault bs (thread + 1) n)
 
 abbrev pub codes-at : List ℕ → ℕ → ℕ → List (List Instruction)
 codes-at bs thread zero = []
@@ -219,3 +229,12 @@ program-of bs =
 -- a table is refused by its first fault, or says its program
 abbrev pub decode : List ℕ → Result Program TableFault
 decode bs = then (table-fault bs) (λ _. Ok (program-of bs))
+
+-- a place in the measure of the table's kind
+abbrev pub placed : Kind → ℕ → Place
+placed Source n = place.Source (record { 0 = n })
+placed Translated n = place.Translated (record { 0 = n })
+
+-- the instruction of a thread at a place: none past the end, and none of a thread that the table lacks
+abbrev pub fetch : Program → ℕ → ℕ → Option Instruction
+fetch p thread place = nth (getD (p .code) thread []) place

@@ -1,0 +1,2 @@
+pub mod Fetch
+mod Walk

@@ -1,0 +1,285 @@
+//! One instruction: its six bytes as fields, their roles, their limits, and what they spell.
+ghost use mathlib.Core.Path.{_≡_};
+ghost use Prim.Native.Nat.{_+_, _<_, _^_};
+ghost use lib.ListN.{getD};
+ghost use Rattle.model.specs.Table.{demand, two, shape as shape-by-op, instruction-of, field-limit, target-limit, operands-fault, fields-fault, instruction-fault, instruction-at};
+use model::code::Instruction;
+use model::code::Limits;
+use model::code::Role;
+use model::code::Shape;
+use model::faults::TableFault;
+
+/// Goes on if the test holds.
+pub(crate) fn require(test: bool, fault: TableFault) -> Result<(), TableFault>
+    ensures { λ r. ⌜ r ≡ demand test fault ⌝ }
+{
+    if test { Ok(()) } else { Err(fault) }
+}
+
+/// The byte at a position, or 0 past the end.
+pub(crate) fn byte(bytes: &[u8], at: usize) -> u8
+    ensures { λ r. ⌜ r ≡ getD (now (bytes .entry)) at 0 ⌝ }
+{
+    if at < bytes.len() { bytes[at] } else { 0 }
+}
+
+/// The two-byte number at a position.
+pub(crate) fn pair(bytes: &[u8], at: usize) -> u16
+    requires { ⌜ at < 2 ^ 32 ⌝ }
+    ensures { λ r. ⌜ r ≡ two (now (bytes .entry)) at ⌝ }
+{
+    byte(bytes, at) as u16 + 256 * byte(bytes, at + 1) as u16
+}
+
+fn shape(op: u8) -> Shape
+    ensures { λ r. ⌜ r ≡ shape-by-op op ⌝ }
+{
+    use Role::Constant;
+    use Role::Register;
+    use Role::Unused;
+    use Role::Word;
+    match op {
+        0 => Shape {
+            p: Register,
+            q: Unused,
+            r: Constant,
+            aims: false,
+        },
+        1 => Shape {
+            p: Register,
+            q: Register,
+            r: Unused,
+            aims: false,
+        },
+        2 => Shape {
+            p: Register,
+            q: Register,
+            r: Unused,
+            aims: false,
+        },
+        3 => Shape {
+            p: Register,
+            q: Unused,
+            r: Constant,
+            aims: false,
+        },
+        4 => Shape {
+            p: Unused,
+            q: Unused,
+            r: Unused,
+            aims: true,
+        },
+        5 => Shape {
+            p: Register,
+            q: Unused,
+            r: Constant,
+            aims: true,
+        },
+        6 => Shape {
+            p: Register,
+            q: Register,
+            r: Unused,
+            aims: true,
+        },
+        7 => Shape {
+            p: Unused,
+            q: Unused,
+            r: Unused,
+            aims: true,
+        },
+        8 => Shape {
+            p: Register,
+            q: Register,
+            r: Unused,
+            aims: false,
+        },
+        9 => Shape {
+            p: Register,
+            q: Word,
+            r: Unused,
+            aims: false,
+        },
+        10 => Shape {
+            p: Word,
+            q: Register,
+            r: Unused,
+            aims: false,
+        },
+        11 => Shape {
+            p: Unused,
+            q: Unused,
+            r: Unused,
+            aims: false,
+        },
+        12 => Shape {
+            p: Word,
+            q: Register,
+            r: Register,
+            aims: false,
+        },
+        13 => Shape {
+            p: Register,
+            q: Unused,
+            r: Constant,
+            aims: false,
+        },
+        14 => Shape {
+            p: Unused,
+            q: Unused,
+            r: Unused,
+            aims: true,
+        },
+        15 => Shape {
+            p: Unused,
+            q: Unused,
+            r: Unused,
+            aims: true,
+        },
+        _ => Shape {
+            p: Unused,
+            q: Unused,
+            r: Unused,
+            aims: false,
+        },
+    }
+}
+
+fn spelled(op: u8, p: u8, q: u8, r: u8, target: u16) -> Instruction
+    ensures { λ i. ⌜ i ≡ instruction-of op p q r target ⌝ }
+{
+    match op {
+        0 => Instruction::Set {
+            register: p,
+            constant: r,
+        },
+        1 => Instruction::Move { into: p, from: q },
+        2 => Instruction::Add { into: p, from: q },
+        3 => Instruction::Inc {
+            register: p,
+            constant: r,
+        },
+        4 => Instruction::Jump { target },
+        5 => Instruction::IfEq {
+            register: p,
+            constant: r,
+            target,
+        },
+        6 => Instruction::IfLt {
+            left: p,
+            right: q,
+            target,
+        },
+        7 => Instruction::Pick { target },
+        8 => Instruction::Wait { left: p, right: q },
+        9 => Instruction::Load {
+            register: p,
+            word: q,
+        },
+        10 => Instruction::Store {
+            word: p,
+            register: q,
+        },
+        11 => Instruction::Fence,
+        12 => Instruction::Arw {
+            word: p,
+            expected: q,
+            new: r,
+        },
+        13 => Instruction::Open {
+            register: p,
+            limit: r,
+        },
+        14 => Instruction::Shut { target },
+        15 => Instruction::Call { target },
+        _ => Instruction::Back,
+    }
+}
+
+fn limit(limits: Limits, role: Role) -> u16
+    ensures { λ r. ⌜ r ≡ field-limit limits role ⌝ }
+{
+    match role {
+        Role::Register => limits.registers as u16,
+        Role::Word => limits.words as u16,
+        Role::Constant => 256,
+        Role::Unused => 1,
+    }
+}
+
+fn aim_limit(limits: Limits, aims: bool) -> u32
+    ensures { λ r. ⌜ r ≡ target-limit limits aims ⌝ }
+{
+    if aims { limits.count as u32 + 1 } else { 1 }
+}
+
+fn check_operands(
+    limits: Limits,
+    shape: Shape,
+    at: usize,
+    p: u8,
+    q: u8,
+    r: u8,
+    target: u16,
+) -> Result<(), TableFault>
+    requires { ⌜ at < 2 ^ 32 ⌝ }
+    ensures { λ c. ⌜ c ≡ operands-fault limits shape at p q r target ⌝ }
+{
+    require(
+        (p as u16) < limit(limits, shape.p),
+        TableFault::Operand { at: at + 1 },
+    )?;
+    require(
+        (q as u16) < limit(limits, shape.q),
+        TableFault::Operand { at: at + 2 },
+    )?;
+    require(
+        (r as u16) < limit(limits, shape.r),
+        TableFault::Operand { at: at + 3 },
+    )?;
+    require(
+        (target as u32) < aim_limit(limits, shape.aims),
+        TableFault::Operand { at: at + 4 },
+    )
+}
+
+fn check_fields(
+    limits: Limits,
+    at: usize,
+    op: u8,
+    p: u8,
+    q: u8,
+    r: u8,
+    target: u16,
+) -> Result<(), TableFault>
+    requires { ⌜ at < 2 ^ 32 ⌝ }
+    ensures { λ c. ⌜ c ≡ fields-fault limits at op p q r target ⌝ }
+{
+    require(op < limits.ops, TableFault::Op { at })?;
+    check_operands(limits, shape(op), at, p, q, r, target)
+}
+
+/// Checks the instruction at a position.
+pub(crate) fn check_instruction(limits: Limits, bytes: &[u8], at: usize) -> Result<(), TableFault>
+    requires { ⌜ at < 2 ^ 31 ⌝ }
+    ensures { λ c. ⌜ c ≡ instruction-fault limits (now (bytes .entry)) at ⌝ }
+{
+    let op = byte(bytes, at);
+    let p = byte(bytes, at + 1);
+    let q = byte(bytes, at + 2);
+    let r = byte(bytes, at + 3);
+    let target = pair(bytes, at + 4);
+    check_fields(limits, at, op, p, q, r, target)
+}
+
+/// The instruction at a position.
+pub(crate) fn instruction(bytes: &[u8], at: usize) -> Instruction
+    requires { ⌜ at < 2 ^ 31 ⌝ }
+    ensures { λ i. ⌜ i ≡ instruction-at (now (bytes .entry)) at ⌝ }
+{
+    let op = byte(bytes, at);
+    let p = byte(bytes, at + 1);
+    let q = byte(bytes, at + 2);
+    let r = byte(bytes, at + 3);
+    let target = pair(bytes, at + 4);
+    spelled(op, p, q, r, target)
+}

@@ -1,0 +1,95 @@
+//! Reading a table, and asking what it says.
+ghost use mathlib.Core.Path.{_≡_};
+ghost use lib.ListN.{length};
+ghost use Rattle.std.specs.Finite.{nth};
+ghost use Rattle.std.specs.Options.{mapped};
+ghost use Rattle.std.specs.Vec.{made};
+ghost use Rattle.model.specs.Table.{decode, fetch, placed};
+ghost use Rattle.table.specs.Said.{said, answered};
+use crate::fields;
+use crate::reader;
+use crate::view::Table;
+use model::code::Instruction;
+use model::code::Kind;
+use model::faults::TableFault;
+use model::places::Place;
+use model::places::SourcePlace;
+use model::places::TranslatedPlace;
+
+impl<'a> Table<'a> {
+    /// Checks the bytes: the table that they are, or their first fault.
+    pub fn read(bytes: &'a [u8]) -> Result<Table<'a>, TableFault>
+        ensures answer { λ r. ⌜ answered r ≡ decode (now (bytes .entry)) ⌝ }
+        ensures bytes { λ r. ⌜ made r (λ t. now (t .bytes) ≡ now (bytes .entry)) ⌝ }
+    {
+        reader::check(bytes)?;
+        Ok(Table { bytes })
+    }
+
+    /// Source or translated.
+    pub fn kind(&self) -> Kind
+        ensures { λ r. ⌜ r ≡ said (now (self .entry)) .kind ⌝ }
+    {
+        reader::kind(self.bytes)
+    }
+
+    /// How many threads there are.
+    pub fn threads(&self) -> u8
+        ensures { λ r. ⌜ r ≡ length (said (now (self .entry)) .code) ⌝ }
+    {
+        fields::byte(self.bytes, 2)
+    }
+
+    /// How many shared words there are.
+    pub fn words(&self) -> u8
+        ensures { λ r. ⌜ r ≡ said (now (self .entry)) .words ⌝ }
+    {
+        fields::byte(self.bytes, 3)
+    }
+
+    /// How many registers each thread has.
+    pub fn registers(&self) -> u8
+        ensures { λ r. ⌜ r ≡ said (now (self .entry)) .registers ⌝ }
+    {
+        fields::byte(self.bytes, 4)
+    }
+
+    /// How many rounds each thread may open.
+    pub fn rounds(&self) -> u8
+        ensures { λ r. ⌜ r ≡ said (now (self .entry)) .rounds ⌝ }
+    {
+        fields::byte(self.bytes, 5)
+    }
+
+    /// How many instructions a thread has; none where there is no such thread.
+    pub fn count(&self, thread: u8) -> Option<u16>
+        ensures { λ r. ⌜ r ≡ mapped length (nth (said (now (self .entry)) .code) thread) ⌝ }
+    {
+        if thread < self.threads() {
+            Some(reader::count(self.bytes, thread))
+        } else {
+            None
+        }
+    }
+
+    /// The instruction of a thread at a place; none past the end, or where there is no such thread.
+    pub fn instruction(&self, thread: u8, place: u16) -> Option<Instruction>
+        ensures { λ r. ⌜ r ≡ fetch (said (now (self .entry))) thread place ⌝ }
+    {
+        if thread >= self.threads() || place >= reader::count(self.bytes, thread) {
+            return None;
+        }
+        let start = reader::position(self.bytes, thread) as usize;
+        Some(fields::instruction(self.bytes, start + 6 * place as usize))
+    }
+
+    /// A place of this table in the measure of its kind.
+    pub fn place(&self, place: u16) -> Place
+        ensures { λ r. ⌜ r ≡ placed (said (now (self .entry)) .kind) place ⌝ }
+    {
+        match self.kind() {
+            Kind::Source => Place::Source(SourcePlace(place)),
+            Kind::Translated => Place::Translated(TranslatedPlace(place)),
+        }
+    }
+}
