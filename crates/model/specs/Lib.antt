@@ -1,4 +1,7 @@
+pub mod Action
 pub mod Encoding
+pub mod Memory
+pub mod Plain
 pub mod Refusals
 pub mod Steps
 pub mod Table

@@ -5,6 +5,14 @@ use Rattle.model.specs.declared.faults.Layer.the-variants as layer
 use Rattle.model.specs.declared.faults.Refusal.{Refusal}
 use Rattle.model.specs.declared.faults.Given.{Given}
 use Rattle.model.specs.declared.faults.Given.the-variants.{First, Second}
+use Rattle.model.specs.declared.places.Place.{Place}
+use Rattle.model.specs.declared.places.Place.the-variants.{Source, Translated}
+use Rattle.model.specs.declared.faults.MemoryFault.{MemoryFault}
+use Rattle.model.specs.declared.faults.MemoryFault.the-variants as memory
+use Rattle.model.specs.declared.faults.MachineFault.{MachineFault}
+use Rattle.model.specs.declared.faults.MachineFault.the-variants as machine
+use Rattle.model.specs.declared.faults.StepsFault.{StepsFault}
+use Rattle.model.specs.declared.faults.StepsFault.the-variants as steps
 use Rattle.model.specs.declared.faults.TableFault.{TableFault}
 use Rattle.model.specs.declared.faults.TableFault.the-variants.{Length, Header, Entry, Op, Operand, WrongKind}
 
@@ -23,3 +31,37 @@ table-refusal (Entry at) = refusal 3 at layer.Table
 table-refusal (Op at) = refusal 4 at layer.Table
 table-refusal (Operand at) = refusal 5 at layer.Table
 table-refusal (WrongKind t) = refusal 7 (given-place t) layer.Table
+
+-- a thread or a word that is not there has the number asked for as its place
+abbrev pub no-such : ℕ → Layer → Refusal
+no-such n l = refusal 9 n l
+
+-- a thread that has ended, and one that lacks what its step needs
+abbrev pub not-granted : ℕ → Refusal
+not-granted at = refusal 11 at layer.Machine
+
+-- a byte of a list that is no step or no line
+abbrev pub bad-byte : ℕ → Refusal
+bad-byte index = refusal 12 index layer.Machine
+
+abbrev pub memory-refusal : MemoryFault → Refusal
+memory-refusal (memory.NoThread t) = no-such t layer.Memory
+memory-refusal (memory.NoWord x) = no-such x layer.Memory
+memory-refusal (memory.Full t) = refusal 15 t layer.Memory
+memory-refusal (memory.Empty t) = refusal 16 t layer.Memory
+
+abbrev pub place-index : Place → ℕ
+place-index (Source p) = p .0
+place-index (Translated p) = p .0
+
+-- a memory's refusal travels up whole
+abbrev pub machine-refusal : MachineFault → Refusal
+machine-refusal (machine.NoThread t) = no-such t layer.Machine
+machine-refusal (machine.Ended p) = not-granted (place-index p)
+machine-refusal (machine.NoWay p) = refusal 10 (place-index p) layer.Machine
+machine-refusal (machine.NotGranted p) = not-granted (place-index p)
+machine-refusal (machine.Memory f) = memory-refusal f
+
+abbrev pub steps-refusal : StepsFault → Refusal
+steps-refusal (steps.Byte i) = bad-byte i
+steps-refusal (steps.Step i f) = machine-refusal f

@@ -1,8 +1,12 @@
 //! Refusals: why a call was refused, with the number, the place and the layer of each case.
 ghost use mathlib.Core.Path.{_≡_};
-ghost use Rattle.model.specs.Refusals.{table-refusal};
+ghost use Rattle.model.specs.Refusals.{machine-refusal, memory-refusal, place-index, steps-refusal, table-refusal};
 ghost use Rattle.model.specs.Text.{given-text, layer-text, refusal-text, table-fault-text};
+ghost use Rattle.model.specs.declared.faults.MachineFault.the-variants.{Memory};
 ghost use Rattle.std.specs.declared.option.Option.the-variants.{Some};
+use crate::places::Place;
+use crate::places::SourcePlace;
+use crate::places::TranslatedPlace;
 use std::fmt;
 
 /// The part of the program that refuses.
@@ -39,6 +43,32 @@ pub enum TableFault {
     Op { at: usize },
     Operand { at: usize },
     WrongKind { table: Given },
+}
+
+/// Why a memory refuses a call.
+#[derive(Clone, Copy)]
+pub enum MemoryFault {
+    NoThread { thread: u8 },
+    NoWord { word: u8 },
+    Full { thread: u8 },
+    Empty { thread: u8 },
+}
+
+/// Why a machine refuses a step or a line.
+#[derive(Clone, Copy)]
+pub enum MachineFault {
+    NoThread { thread: u8 },
+    Ended { place: Place },
+    NoWay { place: Place },
+    NotGranted { place: Place },
+    Memory { fault: MemoryFault },
+}
+
+/// Why a list of steps is refused; `index` counts the list's bytes from 0.
+#[derive(Clone, Copy)]
+pub enum StepsFault {
+    Byte { index: usize },
+    Step { index: usize, fault: MachineFault },
 }
 
 impl TableFault {
@@ -88,6 +118,105 @@ impl TableFault {
                 layer,
             },
         }
+    }
+}
+
+impl MemoryFault {
+    /// Number, place and layer of the refusal.
+    pub fn refusal(&self) -> Refusal
+        ensures { λ r. ⌜ r ≡ memory-refusal (now (self .entry)) ⌝ }
+    {
+        let layer = Layer::Memory;
+        match *self {
+            MemoryFault::NoThread { thread } => Refusal {
+                number: 9,
+                place: thread as usize,
+                layer,
+            },
+            MemoryFault::NoWord { word } => Refusal {
+                number: 9,
+                place: word as usize,
+                layer,
+            },
+            MemoryFault::Full { thread } => Refusal {
+                number: 15,
+                place: thread as usize,
+                layer,
+            },
+            MemoryFault::Empty { thread } => Refusal {
+                number: 16,
+                place: thread as usize,
+                layer,
+            },
+        }
+    }
+}
+
+impl Place {
+    /// How many instructions of the thread stand before it.
+    pub fn index(&self) -> usize
+        ensures { λ r. ⌜ r ≡ place-index (now (self .entry)) ⌝ }
+    {
+        match *self {
+            Place::Source(SourcePlace(n)) => n as usize,
+            Place::Translated(TranslatedPlace(n)) => n as usize,
+        }
+    }
+}
+
+impl MachineFault {
+    /// Number, place and layer of the refusal; a memory's refusal keeps its own.
+    pub fn refusal(&self) -> Refusal
+        ensures { λ r. ⌜ r ≡ machine-refusal (now (self .entry)) ⌝ }
+    {
+        let layer = Layer::Machine;
+        match *self {
+            MachineFault::NoThread { thread } => Refusal {
+                number: 9,
+                place: thread as usize,
+                layer,
+            },
+            MachineFault::Ended { place } => Refusal {
+                number: 11,
+                place: place.index(),
+                layer,
+            },
+            MachineFault::NoWay { place } => Refusal {
+                number: 10,
+                place: place.index(),
+                layer,
+            },
+            MachineFault::NotGranted { place } => Refusal {
+                number: 11,
+                place: place.index(),
+                layer,
+            },
+            MachineFault::Memory { fault } => fault.refusal(),
+        }
+    }
+}
+
+impl StepsFault {
+    /// Number, place and layer of the refusal: a step's refusal keeps its own.
+    pub fn refusal(&self) -> Refusal
+        ensures { λ r. ⌜ r ≡ steps-refusal (now (self .entry)) ⌝ }
+    {
+        match *self {
+            StepsFault::Byte { index } => Refusal {
+                number: 12,
+                place: index,
+                layer: Layer::Machine,
+            },
+            StepsFault::Step { index: _, fault } => fault.refusal(),
+        }
+    }
+}
+
+pub impl From<MemoryFault> for MachineFault as MachineFromMemory {
+    ghost converts = { λ f m. m ≡ Memory f };
+
+    fn from(fault: MemoryFault) -> MachineFault {
+        MachineFault::Memory { fault }
     }
 }
 

@@ -3,3 +3,4 @@
 pub mod code;
 pub mod faults;
 pub mod places;
+pub mod state;
