@@ -1,8 +1,14 @@
 pub mod Action
 pub mod Encoding
+pub mod Law
 pub mod Memory
 pub mod Plain
 pub mod Refusals
+pub mod Registers
+pub mod Runs
+pub mod Schedule
 pub mod Steps
+pub mod StoreBuffer
 pub mod Table
 pub mod Text
+pub mod Translation

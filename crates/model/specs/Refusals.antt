@@ -13,6 +13,15 @@ use Rattle.model.specs.declared.faults.MachineFault.{MachineFault}
 use Rattle.model.specs.declared.faults.MachineFault.the-variants as machine
 use Rattle.model.specs.declared.faults.StepsFault.{StepsFault}
 use Rattle.model.specs.declared.faults.StepsFault.the-variants as steps
+use Rattle.model.specs.declared.faults.LineFault.{LineFault}
+use Rattle.model.specs.declared.faults.LineFault.the-variants as line
+use Rattle.model.specs.declared.faults.AtLine.{AtLine}
+use Rattle.model.specs.declared.faults.ReplayFault.{ReplayFault}
+use Rattle.model.specs.declared.faults.ReplayFault.the-variants as replay
+use Rattle.model.specs.declared.faults.TranslateFault.{TranslateFault}
+use Rattle.model.specs.declared.faults.TranslateFault.the-variants as translate
+use Rattle.model.specs.declared.faults.ScheduleFault.{ScheduleFault}
+use Rattle.model.specs.declared.faults.ScheduleFault.the-variants as schedule
 use Rattle.model.specs.declared.faults.TableFault.{TableFault}
 use Rattle.model.specs.declared.faults.TableFault.the-variants.{Length, Header, Entry, Op, Operand, WrongKind}
 
@@ -65,3 +74,32 @@ machine-refusal (machine.Memory f) = memory-refusal f
 abbrev pub steps-refusal : StepsFault → Refusal
 steps-refusal (steps.Byte i) = bad-byte i
 steps-refusal (steps.Step i f) = machine-refusal f
+
+-- an output that is too short has the bytes needed as its place
+abbrev pub too-short : ℕ → Refusal
+too-short needed = refusal 8 needed layer.Translation
+
+-- a refusal at a line of a schedule has the line as its place
+abbrev pub at-line : ℕ → LineFault → Refusal
+at-line n line.Byte = bad-byte n
+at-line n (line.Machine f) = refusal (machine-refusal f .number) n (machine-refusal f .layer)
+
+abbrev pub line-refusal : AtLine → Refusal
+line-refusal a = at-line (a .line .0) (a .fault)
+
+abbrev pub replay-refusal : ReplayFault → Refusal
+replay-refusal (replay.Table f) = table-refusal f
+replay-refusal (replay.Goal n) = refusal 17 n layer.Machine
+replay-refusal (replay.Line a) = line-refusal a
+
+abbrev pub translate-refusal : TranslateFault → Refusal
+translate-refusal (translate.Table f) = table-refusal f
+translate-refusal (translate.Rounds k) = refusal 6 k layer.Translation
+translate-refusal (translate.Short n) = too-short n
+
+abbrev pub schedule-refusal : ScheduleFault → Refusal
+schedule-refusal (schedule.Table f) = table-refusal f
+schedule-refusal (schedule.Differs at) = refusal 13 at layer.Translation
+schedule-refusal (schedule.Steps f) = steps-refusal f
+schedule-refusal (schedule.SectionOpen n) = refusal 14 n layer.Translation
+schedule-refusal (schedule.Short n) = too-short n

@@ -1,10 +1,11 @@
 //! Refusals: why a call was refused, with the number, the place and the layer of each case.
 ghost use mathlib.Core.Path.{_≡_};
-ghost use Rattle.model.specs.Refusals.{machine-refusal, memory-refusal, place-index, steps-refusal, table-refusal};
+ghost use Rattle.model.specs.Refusals.{line-refusal, machine-refusal, memory-refusal, place-index, replay-refusal, schedule-refusal, steps-refusal, table-refusal, translate-refusal};
 ghost use Rattle.model.specs.Text.{given-text, layer-text, refusal-text, table-fault-text};
 ghost use Rattle.model.specs.declared.faults.MachineFault.the-variants.{Memory};
 ghost use Rattle.std.specs.declared.option.Option.the-variants.{Some};
 use crate::places::Place;
+use crate::places::ScheduleLine;
 use crate::places::SourcePlace;
 use crate::places::TranslatedPlace;
 use std::fmt;
@@ -69,6 +70,46 @@ pub enum MachineFault {
 pub enum StepsFault {
     Byte { index: usize },
     Step { index: usize, fault: MachineFault },
+}
+
+/// Why a line of a schedule is refused: its byte is no line, or the machine refuses it.
+#[derive(Clone, Copy)]
+pub enum LineFault {
+    Byte,
+    Machine { fault: MachineFault },
+}
+
+/// A refused line, with its number.
+#[derive(Clone, Copy)]
+pub struct AtLine {
+    pub line: ScheduleLine,
+    pub fault: LineFault,
+}
+
+/// Why a replay is refused.
+#[derive(Clone, Copy)]
+pub enum ReplayFault {
+    Table { fault: TableFault },
+    Goal { length: usize },
+    Line { at: AtLine },
+}
+
+/// Why a translation is refused.
+#[derive(Clone, Copy)]
+pub enum TranslateFault {
+    Table { fault: TableFault },
+    Rounds { rounds: u8 },
+    Short { needed: usize },
+}
+
+/// Why the schedule of a list of steps is refused.
+#[derive(Clone, Copy)]
+pub enum ScheduleFault {
+    Table { fault: TableFault },
+    Differs { at: usize },
+    Steps { fault: StepsFault },
+    SectionOpen { length: usize },
+    Short { needed: usize },
 }
 
 impl TableFault {
@@ -208,6 +249,65 @@ impl StepsFault {
                 layer: Layer::Machine,
             },
             StepsFault::Step { index: _, fault } => fault.refusal(),
+        }
+    }
+}
+
+impl AtLine {
+    /// Number and layer of what was refused, at the line.
+    pub fn refusal(&self) -> Refusal
+        ensures { λ r. ⌜ r ≡ line-refusal (now (self .entry)) ⌝ }
+    {
+        let ScheduleLine(line) = self.line;
+        match self.fault {
+            LineFault::Byte => Refusal { number: 12, place: line, layer: Layer::Machine },
+            LineFault::Machine { fault } => {
+                let inner = fault.refusal();
+                Refusal { number: inner.number, place: line, layer: inner.layer }
+            }
+        }
+    }
+}
+
+impl ReplayFault {
+    /// Number, place and layer of the refusal: the line is the place once there is one.
+    pub fn refusal(&self) -> Refusal
+        ensures { λ r. ⌜ r ≡ replay-refusal (now (self .entry)) ⌝ }
+    {
+        match *self {
+            ReplayFault::Table { fault } => fault.refusal(),
+            ReplayFault::Goal { length } => Refusal { number: 17, place: length, layer: Layer::Machine },
+            ReplayFault::Line { at } => at.refusal(),
+        }
+    }
+}
+
+impl TranslateFault {
+    /// Number, place and layer of the refusal.
+    pub fn refusal(&self) -> Refusal
+        ensures { λ r. ⌜ r ≡ translate-refusal (now (self .entry)) ⌝ }
+    {
+        let layer = Layer::Translation;
+        match *self {
+            TranslateFault::Table { fault } => fault.refusal(),
+            TranslateFault::Rounds { rounds } => Refusal { number: 6, place: rounds as usize, layer },
+            TranslateFault::Short { needed } => Refusal { number: 8, place: needed, layer },
+        }
+    }
+}
+
+impl ScheduleFault {
+    /// Number, place and layer of the refusal.
+    pub fn refusal(&self) -> Refusal
+        ensures { λ r. ⌜ r ≡ schedule-refusal (now (self .entry)) ⌝ }
+    {
+        let layer = Layer::Translation;
+        match *self {
+            ScheduleFault::Table { fault } => fault.refusal(),
+            ScheduleFault::Differs { at } => Refusal { number: 13, place: at, layer },
+            ScheduleFault::Steps { fault } => fault.refusal(),
+            ScheduleFault::SectionOpen { length } => Refusal { number: 14, place: length, layer },
+            ScheduleFault::Short { needed } => Refusal { number: 8, place: needed, layer },
         }
     }
 }

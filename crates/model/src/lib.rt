@@ -2,5 +2,6 @@
 
 pub mod code;
 pub mod faults;
+pub mod laws;
 pub mod places;
 pub mod state;

@@ -29,3 +29,17 @@ pub struct Store {
     pub word: u8,
     pub value: u8,
 }
+
+/// What a line of a schedule asks of its thread: a step by a way, or the drain of its oldest store.
+#[derive(Clone, Copy)]
+pub enum Act {
+    Step { way: Way },
+    Drain,
+}
+
+/// A line of a schedule.
+#[derive(Clone, Copy)]
+pub struct Line {
+    pub thread: u8,
+    pub act: Act,
+}

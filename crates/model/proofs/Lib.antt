@@ -1,0 +1,3 @@
+pub mod EncodedBack
+pub mod ReadBack
+pub mod Reading
