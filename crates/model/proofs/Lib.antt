@@ -1,3 +1,4 @@
 pub mod EncodedBack
 pub mod ReadBack
 pub mod Reading
+pub mod Examples

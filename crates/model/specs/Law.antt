@@ -22,10 +22,10 @@ use Rattle.model.specs.declared.state.State.{State}
 pub record Agree (p : Program) (k : ℕ) (s : State) (m : Machine) : Type 0 where
   pub words : take (p .words) (s .words) ≡ take (p .words) (m .memory .words)
   pub places : (t : ℕ) → t < length (p .code)
-    → (thread-of (s .threads) t .place ≡ block-start k (getD (p .code) t []) (thread-of (m .threads) t .place))
-    × (thread-of (m .threads) t .place ≤ length (getD (p .code) t []))
+      → (thread-of (s .threads) t .place ≡ block-start k (getD (p .code) t []) (thread-of (m .threads) t .place))
+      × (thread-of (m .threads) t .place ≤ length (getD (p .code) t []))
   pub registers : (t : ℕ) → t < length (p .code)
-    → take (p .registers) (thread-of (s .threads) t .registers) ≡ take (p .registers) (thread-of (m .threads) t .registers)
+      → take (p .registers) (thread-of (s .threads) t .registers) ≡ take (p .registers) (thread-of (m .threads) t .registers)
 
 -- a source table's program and a number of rounds by which it can be translated
 pub record Translatable (p : Program) (k : ℕ) : Type 0 where

@@ -1,11 +1,13 @@
 pub mod Action
 pub mod Encoding
+pub mod Examples
 pub mod Law
 pub mod Memory
 pub mod Plain
 pub mod Refusals
 pub mod Registers
 pub mod Runs
+pub mod Sanity
 pub mod Schedule
 pub mod Steps
 pub mod StoreBuffer

@@ -45,13 +45,13 @@ pub record Log : Type 0 where
 
 abbrev pub new-log : Log
 new-log =
-    record
-      { lines = []
-      ; waiting = replicate 4 (replicate 6 0)
-      ; pending = replicate 4 0
-      ; opened = replicate 4 0
-      ; deepest = 0
-      }
+    record {
+      lines = [];
+      waiting = replicate 4 (replicate 6 0);
+      pending = replicate 4 0;
+      opened = replicate 4 0;
+      deepest = 0;
+    }
 
 -- the source instruction whose body a translated place lies in, if it lies in one
 abbrev pub inside : ℕ → List Instruction → ℕ → Option Instruction
@@ -71,45 +71,45 @@ waiting-for g t j = getD (getD (g .waiting) t []) j 0
 -- OPEN of round j drains the stores that wait for it
 abbrev pub open-logged : Log → ℕ → ℕ → Log
 open-logged g t j =
-    record
-      { lines = g .lines ++ replicate (waiting-for g t j) (drain-line t)
-      ; waiting = g .waiting
-      ; pending = set (g .pending) t (getD (g .pending) t 0 - waiting-for g t j)
-      ; opened = set (g .opened) t (getD (g .opened) t 0 + 1)
-      ; deepest = g .deepest
-      }
+    record {
+      lines = g .lines ++ replicate (waiting-for g t j) (drain-line t);
+      waiting = g .waiting;
+      pending = set (g .pending) t (getD (g .pending) t 0 - waiting-for g t j);
+      opened = set (g .opened) t (getD (g .opened) t 0 + 1);
+      deepest = g .deepest;
+    }
 
 abbrev pub step-logged : Log → ℕ → Way → Log
 step-logged g t w =
-    record
-      { lines = g .lines ++ step-line t w ∷ []
-      ; waiting = g .waiting
-      ; pending = g .pending
-      ; opened = g .opened
-      ; deepest = g .deepest
-      }
+    record {
+      lines = g .lines ++ step-line t w ∷ [];
+      waiting = g .waiting;
+      pending = g .pending;
+      opened = g .opened;
+      deepest = g .deepest;
+    }
 
 -- a store that is written at once is pending for a moment
 abbrev pub direct-logged : Log → ℕ → Log
 direct-logged g t =
-    record
-      { lines = g .lines ++ step-line t Next ∷ drain-line t ∷ []
-      ; waiting = g .waiting
-      ; pending = g .pending
-      ; opened = g .opened
-      ; deepest = max (g .deepest) (getD (g .pending) t 0 + 1)
-      }
+    record {
+      lines = g .lines ++ step-line t Next ∷ drain-line t ∷ [];
+      waiting = g .waiting;
+      pending = g .pending;
+      opened = g .opened;
+      deepest = max (g .deepest) (getD (g .pending) t 0 + 1);
+    }
 
 -- a store that waits for round j
 abbrev pub queue-logged : Log → ℕ → ℕ → Log
 queue-logged g t j =
-    record
-      { lines = g .lines ++ step-line t Next ∷ []
-      ; waiting = set (g .waiting) t (set (getD (g .waiting) t []) j (waiting-for g t j + 1))
-      ; pending = set (g .pending) t (getD (g .pending) t 0 + 1)
-      ; opened = g .opened
-      ; deepest = max (g .deepest) (getD (g .pending) t 0 + 1)
-      }
+    record {
+      lines = g .lines ++ step-line t Next ∷ [];
+      waiting = set (g .waiting) t (set (getD (g .waiting) t []) j (waiting-for g t j + 1));
+      pending = set (g .pending) t (getD (g .pending) t 0 + 1);
+      opened = g .opened;
+      deepest = max (g .deepest) (getD (g .pending) t 0 + 1);
+    }
 
 abbrev pub store-logged : Log → ℕ → ℕ → ℕ → Log
 store-logged g t now-is drain-is = cond (ltb now-is drain-is) (queue-logged g t drain-is) (direct-logged g t)
@@ -166,8 +166,8 @@ logged p q g t w before after =
     let l = layout-of p (q .rounds) in
     let is = getD (p .code) t [] in
     elim (opens-round (fetch q t (before .place))) [
-      true ↦ open-logged g t (register after (index l now))
-    | false ↦ left-body l g t w after (inside (q .rounds) is (before .place)) (inside (q .rounds) is (after .place))
+      | true ↦ open-logged g t (register after (index l now))
+      | false ↦ left-body l g t w after (inside (q .rounds) is (before .place)) (inside (q .rounds) is (after .place))
     ]
 
 abbrev pub way-or-next : Option Way → Way
@@ -179,11 +179,11 @@ abbrev pub logged-run : Program → Program → State → Log → List Call → 
 logged-run p q s g [] = (s, g)
 logged-run p q s g (c ∷ cs) =
     elim (step q s (c .thread) (c .way)) [
-      Err f ↦ logged-run p q s g cs
-    | Ok s′ ↦
-      logged-run p q s′
-      (logged p q g (c .thread) (way-or-next (way-of (c .way))) (thread-of (s .threads) (c .thread)) (thread-of (s′ .threads) (c .thread)))
-      cs
+      | Err f ↦ logged-run p q s g cs
+      | Ok s′ ↦
+          logged-run p q s′
+          (logged p q g (c .thread) (way-or-next (way-of (c .way))) (thread-of (s .threads) (c .thread)) (thread-of (s′ .threads) (c .thread)))
+          cs
     ]
 
 -- a list of step bytes, thread + 4 × way, each of which has to be granted
@@ -191,13 +191,13 @@ abbrev pub logged-bytes : Program → Program → ℕ → State → Log → List
 logged-bytes p q n s g [] = Ok (s, g)
 logged-bytes p q n s g (b ∷ bs) =
     elim (ltb b 8) [
-      false ↦ Err (steps-fault.Byte n)
-    | true ↦ elim (step q s (b % 4) (b / 4)) [
-        Err f ↦ Err (steps-fault.Step n f)
-      | Ok s′ ↦
-        logged-bytes p q (n + 1) s′
-        (logged p q g (b % 4) (way-or-next (way-of (b / 4))) (thread-of (s .threads) (b % 4)) (thread-of (s′ .threads) (b % 4)))
-        bs
+      | false ↦ Err (steps-fault.Byte n)
+      | true ↦ elim (step q s (b % 4) (b / 4)) [
+        | Err f ↦ Err (steps-fault.Step n f)
+        | Ok s′ ↦
+            logged-bytes p q (n + 1) s′
+            (logged p q g (b % 4) (way-or-next (way-of (b / 4))) (thread-of (s .threads) (b % 4)) (thread-of (s′ .threads) (b % 4)))
+            bs
       ]
     ]
 

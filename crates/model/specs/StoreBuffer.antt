@@ -102,13 +102,13 @@ rounds-after rs last t = cond (is-last last t) rs (set rs t (getD rs t 0 + 1))
 
 abbrev pub advanced : Machine → ℕ → Memory × Thread → Machine
 advanced m t r =
-    record
-      { memory = r .0
-      ; threads = set (m .threads) t (r .1)
-      ; rounds = rounds-after (m .rounds) (m .last) t
-      ; last = Some t
-      ; done = m .done + 1
-      }
+    record {
+      memory = r .0;
+      threads = set (m .threads) t (r .1);
+      rounds = rounds-after (m .rounds) (m .last) t;
+      last = Some t;
+      done = m .done + 1;
+    }
 
 -- one line: refused for want of the thread, as a step is, or by the memory
 abbrev pub line : Program → Machine → Line → Result Machine MachineFault
@@ -159,8 +159,8 @@ abbrev pub taken : Program → Machine → List ℕ → Replay
 taken p m [] = record { machine = m; fault = None }
 taken p m (b ∷ bs) =
     elim (byte-line b) [
-      None ↦ halted m line-fault.Byte
-    | Some l ↦ elim (line p m l) [ Ok n ↦ taken p n bs | Err f ↦ halted m (line-fault.Machine f) ]
+      | None ↦ halted m line-fault.Byte
+      | Some l ↦ elim (line p m l) [ Ok n ↦ taken p n bs | Err f ↦ halted m (line-fault.Machine f) ]
     ]
 
 -- what a replay answers, and the memory that it leaves
@@ -175,8 +175,8 @@ replay-ended r answer =
 abbrev pub with-source : {A : Type 0} → List ℕ → Memory → (Program → Answered A) → Answered A
 with-source table m next =
     elim (decode table) [
-      Err f ↦ (Err (replay-fault.Table f), m)
-    | Ok p ↦ elim (p .kind) [ kind.Source ↦ next p | kind.Translated ↦ (Err (replay-fault.Table (WrongKind First)), m) ]
+      | Err f ↦ (Err (replay-fault.Table f), m)
+      | Ok p ↦ elim (p .kind) [ kind.Source ↦ next p | kind.Translated ↦ (Err (replay-fault.Table (WrongKind First)), m) ]
     ]
 
 abbrev pub replay : List ℕ → List ℕ → Memory → Answered Machine

@@ -188,13 +188,13 @@ translated-codes p k (is ∷ rest) = translated-code (frame-of p k is) ∷ trans
 -- the translation of a program by a number of rounds
 abbrev pub translated : Program → ℕ → Program
 translated p k =
-    record
-      { kind = kind.Translated
-      ; words = p .words
-      ; registers = register-count (layout-of p k)
-      ; rounds = k
-      ; code = translated-codes p k (p .code)
-      }
+    record {
+      kind = kind.Translated;
+      words = p .words;
+      registers = register-count (layout-of p k);
+      rounds = k;
+      code = translated-codes p k (p .code);
+    }
 
 abbrev pub Translates : Type 0
 Translates = Result (List ℕ) TranslateFault
@@ -208,9 +208,9 @@ written-to out bs =
 abbrev pub translate : List ℕ → ℕ → List ℕ → Translates
 translate table k out =
     elim (decode table) [
-      Err f ↦ Err (fault.Table f)
-    | Ok p ↦ elim (p .kind) [
-        kind.Source ↦ cond (within 1 k 4) (written-to out (encode (translated p k))) (Err (fault.Rounds k))
-      | kind.Translated ↦ Err (fault.Table (WrongKind First))
+      | Err f ↦ Err (fault.Table f)
+      | Ok p ↦ elim (p .kind) [
+        | kind.Source ↦ cond (within 1 k 4) (written-to out (encode (translated p k))) (Err (fault.Rounds k))
+        | kind.Translated ↦ Err (fault.Table (WrongKind First))
       ]
     ]

@@ -260,10 +260,18 @@ impl AtLine {
     {
         let ScheduleLine(line) = self.line;
         match self.fault {
-            LineFault::Byte => Refusal { number: 12, place: line, layer: Layer::Machine },
+            LineFault::Byte => Refusal {
+                number: 12,
+                place: line,
+                layer: Layer::Machine,
+            },
             LineFault::Machine { fault } => {
                 let inner = fault.refusal();
-                Refusal { number: inner.number, place: line, layer: inner.layer }
+                Refusal {
+                    number: inner.number,
+                    place: line,
+                    layer: inner.layer,
+                }
             }
         }
     }
@@ -276,7 +284,11 @@ impl ReplayFault {
     {
         match *self {
             ReplayFault::Table { fault } => fault.refusal(),
-            ReplayFault::Goal { length } => Refusal { number: 17, place: length, layer: Layer::Machine },
+            ReplayFault::Goal { length } => Refusal {
+                number: 17,
+                place: length,
+                layer: Layer::Machine,
+            },
             ReplayFault::Line { at } => at.refusal(),
         }
     }
@@ -290,8 +302,16 @@ impl TranslateFault {
         let layer = Layer::Translation;
         match *self {
             TranslateFault::Table { fault } => fault.refusal(),
-            TranslateFault::Rounds { rounds } => Refusal { number: 6, place: rounds as usize, layer },
-            TranslateFault::Short { needed } => Refusal { number: 8, place: needed, layer },
+            TranslateFault::Rounds { rounds } => Refusal {
+                number: 6,
+                place: rounds as usize,
+                layer,
+            },
+            TranslateFault::Short { needed } => Refusal {
+                number: 8,
+                place: needed,
+                layer,
+            },
         }
     }
 }
@@ -304,10 +324,22 @@ impl ScheduleFault {
         let layer = Layer::Translation;
         match *self {
             ScheduleFault::Table { fault } => fault.refusal(),
-            ScheduleFault::Differs { at } => Refusal { number: 13, place: at, layer },
+            ScheduleFault::Differs { at } => Refusal {
+                number: 13,
+                place: at,
+                layer,
+            },
             ScheduleFault::Steps { fault } => fault.refusal(),
-            ScheduleFault::SectionOpen { length } => Refusal { number: 14, place: length, layer },
-            ScheduleFault::Short { needed } => Refusal { number: 8, place: needed, layer },
+            ScheduleFault::SectionOpen { length } => Refusal {
+                number: 14,
+                place: length,
+                layer,
+            },
+            ScheduleFault::Short { needed } => Refusal {
+                number: 8,
+                place: needed,
+                layer,
+            },
         }
     }
 }
