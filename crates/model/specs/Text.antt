@@ -10,6 +10,12 @@ use Rattle.model.specs.declared.faults.Layer.the-variants as layer
 use Rattle.model.specs.declared.faults.Refusal.{Refusal}
 use Rattle.model.specs.declared.faults.Given.{Given}
 use Rattle.model.specs.declared.faults.Given.the-variants.{First, Second}
+use Rattle.model.specs.declared.places.Place.{Place}
+use Rattle.model.specs.declared.places.Place.the-variants as place
+use Rattle.model.specs.declared.faults.MemoryFault.{MemoryFault}
+use Rattle.model.specs.declared.faults.MemoryFault.the-variants as memory
+use Rattle.model.specs.declared.faults.MachineFault.{MachineFault}
+use Rattle.model.specs.declared.faults.MachineFault.the-variants as machine
 use Rattle.model.specs.declared.faults.TableFault.{TableFault}
 use Rattle.model.specs.declared.faults.TableFault.the-variants.{Length, Header, Entry, Op, Operand, WrongKind}
 use Rattle.model.specs.declared.code.Instruction.{Instruction}
@@ -60,3 +66,20 @@ table-fault-text (Entry at) = codes "the thread entry at byte " ++ (decimal at +
 table-fault-text (Op at) = codes "the op at byte " ++ (decimal at ++ codes " is unknown or of the other kind of table")
 table-fault-text (Operand at) = codes "the operand at byte " ++ (decimal at ++ codes " is out of its range or should be 0")
 table-fault-text (WrongKind t) = codes "the " ++ (given-text t ++ codes " table is of the wrong kind")
+
+abbrev pub place-text : Place → List ℕ
+place-text (place.Source p) = codes "source place " ++ decimal (p .0)
+place-text (place.Translated p) = codes "translated place " ++ decimal (p .0)
+
+abbrev pub memory-fault-text : MemoryFault → List ℕ
+memory-fault-text (memory.NoThread t) = codes "the memory has no thread " ++ decimal t
+memory-fault-text (memory.NoWord x) = codes "the memory has no word " ++ decimal x
+memory-fault-text (memory.Full t) = codes "no further store of thread " ++ (decimal t ++ codes " can wait")
+memory-fault-text (memory.Empty t) = codes "no store of thread " ++ (decimal t ++ codes " waits")
+
+abbrev pub machine-fault-text : MachineFault → List ℕ
+machine-fault-text (machine.NoThread t) = codes "the table has no thread " ++ decimal t
+machine-fault-text (machine.Ended p) = codes "the thread has ended at " ++ place-text p
+machine-fault-text (machine.NoWay p) = codes "there is no such way at " ++ place-text p
+machine-fault-text (machine.NotGranted p) = codes "the step at " ++ (place-text p ++ codes " is not granted now")
+machine-fault-text (machine.Memory f) = memory-fault-text f

@@ -1,7 +1,4 @@
 //! What a table's code is made of.
-ghost use Rattle.model.specs.Text.{instruction-text, kind-text};
-ghost use Rattle.std.specs.declared.option.Option.the-variants.{Some};
-use std::fmt;
 
 /// Whether a table is as its author wrote it or as the translation wrote it.
 #[derive(Clone, Copy)]
@@ -101,84 +98,4 @@ pub struct Limits {
     pub registers: u8,
     pub words: u8,
     pub count: u16,
-}
-
-pub impl fmt::Display for Kind as KindDisplay {
-    ghost shown = { λ k. Some (kind-text k) };
-
-    fn fmt<W: fmt::Write>(&self, f: &mut fmt::Formatter<W>) -> fmt::Result {
-        match *self {
-            Kind::Source => write!(f, "source"),
-            Kind::Translated => write!(f, "translated"),
-        }
-    }
-}
-
-pub impl fmt::Display for Instruction as InstructionDisplay {
-    ghost shown = { λ i. Some (instruction-text i) };
-
-    fn fmt<W: fmt::Write>(&self, f: &mut fmt::Formatter<W>) -> fmt::Result {
-        match *self {
-            Instruction::Set { register, constant } => write!(
-                f,
-                "SET register {register} to {constant}"
-            ),
-            Instruction::Move { into, from } => write!(
-                f,
-                "MOVE register {into} from register {from}"
-            ),
-            Instruction::Add { into, from } => write!(f, "ADD register {from} to register {into}"),
-            Instruction::Inc { register, constant } => write!(
-                f,
-                "INC register {register} by {constant}"
-            ),
-            Instruction::Jump { target } => write!(f, "JUMP to {target}"),
-            Instruction::IfEq {
-                register,
-                constant,
-                target,
-            } => { write!(f, "IFEQ register {register} is {constant}, to {target}") }
-            Instruction::IfLt {
-                left,
-                right,
-                target,
-            } => {
-                write!(
-                    f,
-                    "IFLT register {left} is below register {right}, to {target}"
-                )
-            }
-            Instruction::Pick { target } => write!(f, "PICK the next place or {target}"),
-            Instruction::Wait { left, right } => write!(
-                f,
-                "WAIT until registers {left} and {right} are equal"
-            ),
-            Instruction::Load { register, word } => write!(
-                f,
-                "LOAD register {register} from word {word}"
-            ),
-            Instruction::Store { word, register } => write!(
-                f,
-                "STORE word {word} from register {register}"
-            ),
-            Instruction::Fence => write!(f, "FENCE"),
-            Instruction::Arw {
-                word,
-                expected,
-                new,
-            } => {
-                write!(
-                    f,
-                    "ARW word {word} from register {expected} to register {new}"
-                )
-            }
-            Instruction::Open { register, limit } => write!(
-                f,
-                "OPEN a section, register {register} below {limit}"
-            ),
-            Instruction::Shut { target } => write!(f, "SHUT the section, to {target}"),
-            Instruction::Call { target } => write!(f, "CALL {target}"),
-            Instruction::Back => write!(f, "BACK"),
-        }
-    }
 }

@@ -4,4 +4,6 @@ pub mod code;
 pub mod faults;
 pub mod laws;
 pub mod places;
+mod refusals;
 pub mod state;
+pub mod texts;

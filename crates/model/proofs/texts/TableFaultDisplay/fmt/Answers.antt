@@ -1,4 +1,4 @@
-use Rattle.model.proofs.faults.TableFaultDisplay.fmt.Needs as need
+use Rattle.model.proofs.texts.TableFaultDisplay.fmt.Needs as need
 
 pub returns-in-Length : need.returns-in-Length
 returns-in-Length g c = simp (c .in-Length .is) (c .write .ensures .shows)
