@@ -2,3 +2,8 @@ pub mod EncodedBack
 pub mod ReadBack
 pub mod Reading
 pub mod Examples
+pub mod Writes
+pub mod PlainLaws
+pub mod MemoryLaws
+pub mod Limits
+pub mod Stretches

@@ -1,13 +1,13 @@
 -- Laws of the machines and memories in the subject's words.
 use Prim.Native.Nat.{ℕ, _+_, _<_, _≤_}
 use mathlib.Core.Path.{_≡_}
-use mathlib.Core.Bool.{cond}
+use mathlib.Core.Bool.{Bool, cond}
 use mathlib.Core.List.{List, [], _∷_, map}
 use lib.Dec.{eqb}
 use lib.ListN.{length, getD}
 use Rattle.std.specs.declared.option.Option.the-variants.{Some, None}
 use Rattle.std.specs.declared.result.Result.the-variants.{Ok, Err}
-use Rattle.model.specs.Memory.{Memory, pending-of, drain, look}
+use Rattle.model.specs.Memory.{Memory, pending-of, cleared, look, put, drain, exchange}
 use Rattle.model.specs.Plain.{step, thread-of}
 use Rattle.model.specs.Runs.{Call, asked}
 use Rattle.model.specs.StoreBuffer.{Machine, started, lines}
@@ -55,6 +55,13 @@ pub record Sound (m : Memory) : Type 0 where
   pub words : length (m .words) ≡ 8
   pub lists : length (m .pending) ≡ 4
   pub stores : (t : ℕ) → WordsBelow 8 (pending-of m t)
+
+-- a cleared memory is sound, and whatever is answered leaves a sound memory sound
+pub record SoundStays : Type 0 where
+  pub at-first : (m : Memory) → Sound (cleared m)
+  pub after-put : (m n : Memory) (t x v : ℕ) → Sound m → put m t x v ≡ Ok n → Sound n
+  pub after-drain : (m n : Memory) (t : ℕ) → Sound m → drain m t ≡ Ok n → Sound n
+  pub after-exchange : (m n : Memory) (x e v : ℕ) (met : Bool) → Sound m → exchange m x e v ≡ Ok (met, n) → Sound n
 
 -- a drain keeps what its thread looks up, at every word
 abbrev pub DrainsKeepLooks : Type 0

@@ -1,6 +1,6 @@
 //! Number, place and layer of each refusal.
 ghost use mathlib.Core.Path.{_≡_};
-ghost use Rattle.model.specs.Refusals.{line-refusal, machine-refusal, memory-refusal, place-index, replay-refusal, schedule-refusal, steps-refusal, table-refusal, translate-refusal};
+ghost use Rattle.model.specs.Refusals.{refusal as refusal-of, line-refusal, machine-refusal, memory-refusal, place-index, replay-refusal, schedule-refusal, steps-refusal, table-refusal, translate-refusal};
 use crate::faults::AtLine;
 use crate::faults::Given;
 use crate::faults::Layer;
@@ -17,6 +17,16 @@ use crate::places::Place;
 use crate::places::ScheduleLine;
 use crate::places::SourcePlace;
 use crate::places::TranslatedPlace;
+
+fn numbered(number: u8, place: usize, layer: Layer) -> Refusal
+    ensures { λ r. ⌜ r ≡ refusal-of number place layer ⌝ }
+{
+    Refusal {
+        number,
+        place,
+        layer,
+    }
+}
 
 impl Place {
     /// How many instructions of the thread stand before it.
@@ -37,45 +47,17 @@ impl TableFault {
     {
         let layer = Layer::Table;
         match *self {
-            TableFault::Length { length } => Refusal {
-                number: 1,
-                place: length,
-                layer,
-            },
-            TableFault::Header { at } => Refusal {
-                number: 2,
-                place: at,
-                layer,
-            },
-            TableFault::Entry { at } => Refusal {
-                number: 3,
-                place: at,
-                layer,
-            },
-            TableFault::Op { at } => Refusal {
-                number: 4,
-                place: at,
-                layer,
-            },
-            TableFault::Operand { at } => Refusal {
-                number: 5,
-                place: at,
-                layer,
-            },
+            TableFault::Length { length } => numbered(1, length, layer),
+            TableFault::Header { at } => numbered(2, at, layer),
+            TableFault::Entry { at } => numbered(3, at, layer),
+            TableFault::Op { at } => numbered(4, at, layer),
+            TableFault::Operand { at } => numbered(5, at, layer),
             TableFault::WrongKind {
                 table: Given::First,
-            } => Refusal {
-                number: 7,
-                place: 0,
-                layer,
-            },
+            } => numbered(7, 0, layer),
             TableFault::WrongKind {
                 table: Given::Second,
-            } => Refusal {
-                number: 7,
-                place: 1,
-                layer,
-            },
+            } => numbered(7, 1, layer),
         }
     }
 }
@@ -87,26 +69,10 @@ impl MemoryFault {
     {
         let layer = Layer::Memory;
         match *self {
-            MemoryFault::NoThread { thread } => Refusal {
-                number: 9,
-                place: thread as usize,
-                layer,
-            },
-            MemoryFault::NoWord { word } => Refusal {
-                number: 9,
-                place: word as usize,
-                layer,
-            },
-            MemoryFault::Full { thread } => Refusal {
-                number: 15,
-                place: thread as usize,
-                layer,
-            },
-            MemoryFault::Empty { thread } => Refusal {
-                number: 16,
-                place: thread as usize,
-                layer,
-            },
+            MemoryFault::NoThread { thread } => numbered(9, thread as usize, layer),
+            MemoryFault::NoWord { word } => numbered(9, word as usize, layer),
+            MemoryFault::Full { thread } => numbered(15, thread as usize, layer),
+            MemoryFault::Empty { thread } => numbered(16, thread as usize, layer),
         }
     }
 }
@@ -118,26 +84,10 @@ impl MachineFault {
     {
         let layer = Layer::Machine;
         match *self {
-            MachineFault::NoThread { thread } => Refusal {
-                number: 9,
-                place: thread as usize,
-                layer,
-            },
-            MachineFault::Ended { place } => Refusal {
-                number: 11,
-                place: place.index(),
-                layer,
-            },
-            MachineFault::NoWay { place } => Refusal {
-                number: 10,
-                place: place.index(),
-                layer,
-            },
-            MachineFault::NotGranted { place } => Refusal {
-                number: 11,
-                place: place.index(),
-                layer,
-            },
+            MachineFault::NoThread { thread } => numbered(9, thread as usize, layer),
+            MachineFault::Ended { place } => numbered(11, place.index(), layer),
+            MachineFault::NoWay { place } => numbered(10, place.index(), layer),
+            MachineFault::NotGranted { place } => numbered(11, place.index(), layer),
             MachineFault::Memory { fault } => fault.refusal(),
         }
     }
@@ -149,11 +99,7 @@ impl StepsFault {
         ensures { λ r. ⌜ r ≡ steps-refusal (now (self .entry)) ⌝ }
     {
         match *self {
-            StepsFault::Byte { index } => Refusal {
-                number: 12,
-                place: index,
-                layer: Layer::Machine,
-            },
+            StepsFault::Byte { index } => numbered(12, index, Layer::Machine),
             StepsFault::Step { index: _, fault } => fault.refusal(),
         }
     }
@@ -166,18 +112,10 @@ impl AtLine {
     {
         let ScheduleLine(line) = self.line;
         match self.fault {
-            LineFault::Byte => Refusal {
-                number: 12,
-                place: line,
-                layer: Layer::Machine,
-            },
+            LineFault::Byte => numbered(12, line, Layer::Machine),
             LineFault::Machine { fault } => {
                 let inner = fault.refusal();
-                Refusal {
-                    number: inner.number,
-                    place: line,
-                    layer: inner.layer,
-                }
+                numbered(inner.number, line, inner.layer)
             }
         }
     }
@@ -190,11 +128,7 @@ impl ReplayFault {
     {
         match *self {
             ReplayFault::Table { fault } => fault.refusal(),
-            ReplayFault::Goal { length } => Refusal {
-                number: 17,
-                place: length,
-                layer: Layer::Machine,
-            },
+            ReplayFault::Goal { length } => numbered(17, length, Layer::Machine),
             ReplayFault::Line { at } => at.refusal(),
         }
     }
@@ -208,16 +142,8 @@ impl TranslateFault {
         let layer = Layer::Translation;
         match *self {
             TranslateFault::Table { fault } => fault.refusal(),
-            TranslateFault::Rounds { rounds } => Refusal {
-                number: 6,
-                place: rounds as usize,
-                layer,
-            },
-            TranslateFault::Short { needed } => Refusal {
-                number: 8,
-                place: needed,
-                layer,
-            },
+            TranslateFault::Rounds { rounds } => numbered(6, rounds as usize, layer),
+            TranslateFault::Short { needed } => numbered(8, needed, layer),
         }
     }
 }
@@ -230,22 +156,10 @@ impl ScheduleFault {
         let layer = Layer::Translation;
         match *self {
             ScheduleFault::Table { fault } => fault.refusal(),
-            ScheduleFault::Differs { at } => Refusal {
-                number: 13,
-                place: at,
-                layer,
-            },
+            ScheduleFault::Differs { at } => numbered(13, at, layer),
             ScheduleFault::Steps { fault } => fault.refusal(),
-            ScheduleFault::SectionOpen { length } => Refusal {
-                number: 14,
-                place: length,
-                layer,
-            },
-            ScheduleFault::Short { needed } => Refusal {
-                number: 8,
-                place: needed,
-                layer,
-            },
+            ScheduleFault::SectionOpen { length } => numbered(14, length, layer),
+            ScheduleFault::Short { needed } => numbered(8, needed, layer),
         }
     }
 }
