@@ -1,8 +1,11 @@
 -- What a table's code holds at a thread and a place.
 use Prim.Native.Nat.{ℕ, zero, suc, _+_, _*_, _<_, _≤_}
 use mathlib.Core.Path.{_≡_, refl, ap, sym, _∙_}
+use mathlib.Core.Bool.{Bool, true, false, cond}
 use mathlib.Core.List.{List, []}
 use native.Mathlib.Omega.{arith}
+use borrow.Author.Tests.{ltb-true, ltb-false}
+use lib.Dec.{ltb}
 use lib.ListN.{length, getD}
 use Rattle.std.specs.Finite.{nth}
 use Rattle.std.specs.Options.{mapped}
@@ -12,6 +15,7 @@ use Rattle.std.proofs.shelf.Lists.{getD-past}
 use Rattle.std.proofs.shelf.Maps.{nth-getD, nth-past}
 use Rattle.model.specs.declared.code.Instruction.{Instruction}
 use Rattle.model.specs.Table.{position, count, instruction-at, code-at, codes-at}
+use Rattle.table.specs.Lookup.{found-count, found-instruction}
 
 pub length-code : (bs : List ℕ) (at n : ℕ) → length (code-at bs at n) ≡ n
 length-code bs at zero = refl
@@ -41,36 +45,52 @@ place-instruction bs at (suc n) (suc i) h =
     place-instruction bs (at + 6) n i (omega arith) ∙ ap (λ (a : ℕ). Some (instruction-at bs a)) same
 
 module _ (bs : List ℕ) (threads thread : ℕ) where
-  pub code-of : thread < threads → getD (codes-at bs 0 threads) thread [] ≡ code-at bs (position bs thread) (count bs thread)
+  code-of : thread < threads → getD (codes-at bs 0 threads) thread [] ≡ code-at bs (position bs thread) (count bs thread)
   code-of h =
       let same : 0 + thread ≡ thread = omega arith in
       thread-code bs 0 threads thread h ∙ ap (λ (t : ℕ). code-at bs (position bs t) (count bs t)) same
 
-  pub count-of : thread < threads → mapped length (nth (codes-at bs 0 threads) thread) ≡ Some (count bs thread)
+  count-of : thread < threads → mapped length (nth (codes-at bs 0 threads) thread) ≡ Some (count bs thread)
   count-of h =
       let within : thread < length (codes-at bs 0 threads) = rw (length-codes bs 0 threads) h in
       ap (mapped length) (nth-getD (codes-at bs 0 threads) thread [] within)
       ∙ ap (λ (c : List Instruction). Some (length c)) (code-of h)
       ∙ ap (λ (n : ℕ). Some n) (length-code bs (position bs thread) (count bs thread))
 
-  pub no-count : threads ≤ thread → mapped length (nth (codes-at bs 0 threads) thread) ≡ None
+  no-count : threads ≤ thread → mapped length (nth (codes-at bs 0 threads) thread) ≡ None
   no-count h =
       let past : length (codes-at bs 0 threads) ≤ thread = rw (length-codes bs 0 threads) h in
       ap (mapped length) (nth-past (codes-at bs 0 threads) thread past)
 
+  count-by : (b : Bool) → ltb thread threads ≡ b → cond b (Some (count bs thread)) None ≡ mapped length (nth (codes-at bs 0 threads) thread)
+  count-by true e = sym (count-of (ltb-true thread threads e))
+  count-by false e = sym (no-count (ltb-false thread threads e))
+
   module _ (place : ℕ) where
-    pub fetched : thread < threads → place < count bs thread → nth (getD (codes-at bs 0 threads) thread []) place ≡ Some (instruction-at bs (position bs thread + 6 * place))
-    fetched h k =
+    there : thread < threads → place < count bs thread → nth (getD (codes-at bs 0 threads) thread []) place ≡ Some (instruction-at bs (position bs thread + 6 * place))
+    there h k =
         ap (λ (c : List Instruction). nth c place) (code-of h)
         ∙ place-instruction bs (position bs thread) (count bs thread) place k
 
-    pub past-code : thread < threads → count bs thread ≤ place → nth (getD (codes-at bs 0 threads) thread []) place ≡ None
+    past-code : thread < threads → count bs thread ≤ place → nth (getD (codes-at bs 0 threads) thread []) place ≡ None
     past-code h k =
         let past : length (code-at bs (position bs thread) (count bs thread)) ≤ place = rw (length-code bs (position bs thread) (count bs thread)) k in
         ap (λ (c : List Instruction). nth c place) (code-of h)
         ∙ nth-past (code-at bs (position bs thread) (count bs thread)) place past
 
-    pub past-threads : threads ≤ thread → nth (getD (codes-at bs 0 threads) thread []) place ≡ None
+    past-threads : threads ≤ thread → nth (getD (codes-at bs 0 threads) thread []) place ≡ None
     past-threads h =
         let past : length (codes-at bs 0 threads) ≤ thread = rw (length-codes bs 0 threads) h in
         ap (λ (c : List Instruction). nth c place) (getD-past (codes-at bs 0 threads) thread [] past)
+
+    there-by : (b d : Bool) → ltb thread threads ≡ b → ltb place (count bs thread) ≡ d → cond b (cond d (Some (instruction-at bs (position bs thread + 6 * place))) None) None ≡ nth (getD (codes-at bs 0 threads) thread []) place
+    there-by true true e f = sym (there (ltb-true thread threads e) (ltb-true place (count bs thread) f))
+    there-by true false e f = sym (past-code (ltb-true thread threads e) (ltb-false place (count bs thread) f))
+    there-by false d e f = sym (past-threads (ltb-false thread threads e))
+
+module _ (bs : List ℕ) (thread : ℕ) where
+  pub counted : found-count bs thread ≡ mapped length (nth (codes-at bs 0 (getD bs 2 0)) thread)
+  counted = count-by bs (getD bs 2 0) thread _ refl
+
+  pub fetched : (place : ℕ) → found-instruction bs thread place ≡ nth (getD (codes-at bs 0 (getD bs 2 0)) thread []) place
+  fetched place = there-by bs (getD bs 2 0) thread place _ _ refl refl

@@ -5,8 +5,9 @@ ghost use Rattle.std.specs.Finite.{nth};
 ghost use Rattle.std.specs.Options.{mapped};
 ghost use Rattle.std.specs.Vec.{made};
 ghost use Rattle.model.specs.Table.{decode, fetch, placed};
-ghost use Rattle.table.specs.Said.{said, answered};
+ghost use Rattle.table.specs.Said.{said, answered, begins};
 use crate::fields;
+use crate::lookup;
 use crate::reader;
 use crate::view::Table;
 use model::code::Instruction;
@@ -37,7 +38,7 @@ impl<'a> Table<'a> {
     pub fn threads(&self) -> u8
         ensures { λ r. ⌜ r ≡ length (said (now (self .entry)) .code) ⌝ }
     {
-        fields::byte(self.bytes, 2)
+        lookup::threads(self.bytes)
     }
 
     /// How many shared words there are.
@@ -65,22 +66,21 @@ impl<'a> Table<'a> {
     pub fn count(&self, thread: u8) -> Option<u16>
         ensures { λ r. ⌜ r ≡ mapped length (nth (said (now (self .entry)) .code) thread) ⌝ }
     {
-        if thread < self.threads() {
-            Some(reader::count(self.bytes, thread))
-        } else {
-            None
-        }
+        lookup::count(self.bytes, thread)
+    }
+
+    /// Where the code of a thread begins; none where there is no such thread.
+    pub fn position(&self, thread: u8) -> Option<u16>
+        ensures { λ r. ⌜ r ≡ begins (now (self .entry)) thread ⌝ }
+    {
+        lookup::position(self.bytes, thread)
     }
 
     /// The instruction of a thread at a place; none past the end, or where there is no such thread.
     pub fn instruction(&self, thread: u8, place: u16) -> Option<Instruction>
         ensures { λ r. ⌜ r ≡ fetch (said (now (self .entry))) thread place ⌝ }
     {
-        if thread >= self.threads() || place >= reader::count(self.bytes, thread) {
-            return None;
-        }
-        let start = reader::position(self.bytes, thread) as usize;
-        Some(fields::instruction(self.bytes, start + 6 * place as usize))
+        lookup::instruction(self.bytes, thread, place)
     }
 
     /// A place of this table in the measure of its kind.

@@ -5,4 +5,4 @@ use Rattle.table.proofs.view.Table.threads.Needs as need
 
 pub returns : need.returns
 returns c =
-    c .byte .ensures ∙ sym (length-codes (c .args .self .now .bytes .now) 0 (getD (c .args .self .now .bytes .now) 2 0))
+    c .threads .ensures ∙ sym (length-codes (c .args .self .now .bytes .now) 0 (getD (c .args .self .now .bytes .now) 2 0))
