@@ -60,7 +60,7 @@ given-text First = codes "first"
 given-text Second = codes "second"
 
 abbrev pub table-fault-text : TableFault → List ℕ
-table-fault-text (Length n) = decimal n ++ codes " bytes are not what the counts give"
+table-fault-text (Length n) = codes "a table of " ++ (decimal n ++ codes " bytes is not as long as its counts say")
 table-fault-text (Header at) = codes "byte " ++ (decimal at ++ codes " of the header is out of its range")
 table-fault-text (Entry at) = codes "the thread entry at byte " ++ (decimal at ++ codes " has a wrong position or a count out of its range")
 table-fault-text (Op at) = codes "the op at byte " ++ (decimal at ++ codes " is unknown or of the other kind of table")

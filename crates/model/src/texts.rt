@@ -137,7 +137,7 @@ pub impl fmt::Display for TableFault as TableFaultDisplay {
         match *self {
             TableFault::Length { length } => write!(
                 f,
-                "{length} bytes are not what the counts give"
+                "a table of {length} bytes is not as long as its counts say"
             ),
             TableFault::Header { at } => write!(f, "byte {at} of the header is out of its range"),
             TableFault::Entry { at } => {
