@@ -1,0 +1,3 @@
+//! What the demonstration shows of memories and runs, as lines of text.
+
+pub mod asked;
