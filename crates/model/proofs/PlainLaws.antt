@@ -12,8 +12,7 @@ use Rattle.std.specs.Vec.{made}
 use Rattle.std.specs.declared.option.Option.{Option}
 use Rattle.std.specs.declared.option.Option.the-variants.{Some, None}
 use Rattle.model.specs.Action.{Action, stuck, quiet, reads, writes, fences, swaps, opens, shuts, can-go, way-of}
-use Rattle.model.specs.Plain.{step-on, step-way, or-refused, performed, granted-if, may-step, thread-of, new-thread}
-use Rattle.model.specs.Runs.{kept}
+use Rattle.model.specs.Plain.{step-on, step-way, or-refused, performed, granted-if, may-step, thread-of, no-thread, run-after}
 use Rattle.model.specs.Sanity.{OtherThreadsStay, RefusedStepsLeaveTheRun}
 use Rattle.model.specs.Table.{Program}
 use Rattle.model.specs.declared.code.Instruction.{Instruction}
@@ -39,7 +38,7 @@ granted-made P (Some s) f h = h
 -- an action puts a thread in its own thread's place, and nowhere else
 module _ (s : State) (t u : ℕ) (other : u ≡ t → ⊥) where
   stays : (th : Thread) → thread-of (set (s .threads) t th) u ≡ thread-of (s .threads) u
-  stays th = getD-set-other (s .threads) t u th new-thread other
+  stays th = getD-set-other (s .threads) t u th no-thread other
 
   performed-stays : (a : Action) → Granted (SameThread u s) (performed s t a)
   performed-stays stuck = tt
@@ -69,4 +68,4 @@ other-threads-stay p s s′ t w u h other =
     (cond-both (ltb t (length (p .code))) _ _ (λ r. made r (SameThread u s)) (λ _. on-stays s t u other p w _) (λ _. tt))
 
 pub refused-steps-leave-the-run : RefusedStepsLeaveTheRun
-refused-steps-leave-the-run p s c f h = ap (kept s) h
+refused-steps-leave-the-run p s c f h = ap (run-after s) h

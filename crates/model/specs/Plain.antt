@@ -24,8 +24,12 @@ new-thread = record { place = 0; link = 0; registers = replicate 82 0 }
 abbrev pub new-run : State
 new-run = record { words = replicate 8 0; threads = replicate 4 new-thread; holder = None }
 
+abbrev pub no-thread : Thread
+no-thread = record { place = 0; link = 0; registers = [] }
+
+-- one of the four threads
 abbrev pub thread-of : List Thread → ℕ → Thread
-thread-of ths t = getD ths t new-thread
+thread-of ths t = getD ths t no-thread
 
 -- the run with a thread, and one with a word too
 abbrev pub with-thread : State → ℕ → Thread → State
@@ -90,3 +94,12 @@ step-on p s t w (Some i) = step-way p s t i (way-of w)
 abbrev pub step : Program → State → ℕ → ℕ → Result State MachineFault
 step p s t w =
     cond (ltb t (length (p .code))) (step-on p s t w (fetch p t (thread-of (s .threads) t .place))) (Err (NoThread t))
+
+-- how a step is answered, and the run after it: a refused step leaves the run as it was
+abbrev pub answer-of : {E : Type 0} → Result State E → Result (Unit {0}) E
+answer-of (Ok s) = Ok tt
+answer-of (Err f) = Err f
+
+abbrev pub run-after : {E : Type 0} → State → Result State E → State
+run-after s (Ok after) = after
+run-after s (Err f) = s

@@ -5,6 +5,7 @@ use mathlib.Core.List.{List, [], _∷_}
 use lib.Dec.{eqb, ltb, leb}
 use lib.ListN.{length, getD}
 use Rattle.std.specs.declared.option.Option.{Option}
+use Rattle.std.specs.declared.option.Option.the-variants.{Some, None}
 use Rattle.std.specs.Finite.{nth}
 use Rattle.std.specs.declared.result.Result.{Result}
 use Rattle.std.specs.declared.result.Result.the-variants.{Ok, Err}
@@ -238,3 +239,23 @@ placed Translated n = place.Translated (record { 0 = n })
 -- the instruction of a thread at a place: none past the end, and none of a thread that the table lacks
 abbrev pub fetch : Program → ℕ → ℕ → Option Instruction
 fetch p thread place = nth (getD (p .code) thread []) place
+
+-- where an instruction goes aside: only PICK does
+abbrev pub aside-of : Instruction → Option ℕ
+aside-of (Set p r) = None
+aside-of (Move p q) = None
+aside-of (Add p q) = None
+aside-of (Inc p r) = None
+aside-of (Jump t) = None
+aside-of (IfEq p r t) = None
+aside-of (IfLt p q t) = None
+aside-of (Pick t) = Some t
+aside-of (Wait p q) = None
+aside-of (Load p q) = None
+aside-of (Store p q) = None
+aside-of Fence = None
+aside-of (Arw p q r) = None
+aside-of (Open p r) = None
+aside-of (Shut t) = None
+aside-of (Call t) = None
+aside-of Back = None
