@@ -83,7 +83,7 @@ module _ (bs : List ℕ) (threads thread : ℕ) where
         let past : length (codes-at bs 0 threads) ≤ thread = rw (length-codes bs 0 threads) h in
         ap (λ (c : List Instruction). nth c place) (getD-past (codes-at bs 0 threads) thread [] past)
 
-    there-by : (b d : Bool) → ltb thread threads ≡ b → ltb place (count bs thread) ≡ d → cond b (cond d (Some (instruction-at bs (position bs thread + 6 * place))) None) None ≡ nth (getD (codes-at bs 0 threads) thread []) place
+    there-by : (b d : Bool) → ltb thread threads ≡ b → ltb place (count bs thread) ≡ d → mapped (instruction-at bs) (cond b (cond d (Some (position bs thread + 6 * place)) None) None) ≡ nth (getD (codes-at bs 0 threads) thread []) place
     there-by true true e f = sym (there (ltb-true thread threads e) (ltb-true place (count bs thread) f))
     there-by true false e f = sym (past-code (ltb-true thread threads e) (ltb-false place (count bs thread) f))
     there-by false d e f = sym (past-threads (ltb-false thread threads e))

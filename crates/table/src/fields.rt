@@ -2,7 +2,8 @@
 ghost use mathlib.Core.Path.{_≡_};
 ghost use Prim.Native.Nat.{_+_, _<_, _^_};
 ghost use lib.ListN.{getD};
-ghost use Rattle.model.specs.Table.{demand, two, shape as shape-by-op, instruction-of, field-limit, target-limit, operands-fault, fields-fault, instruction-fault, instruction-at};
+ghost use Rattle.model.specs.Table.{demand, two, shape as shape-by-op, instruction-of, field-limit, target-limit, operands-fault, fields-fault, instruction-fault, instruction-at, aside-of};
+ghost use Rattle.table.specs.Entries.{fields-at};
 use model::code::Instruction;
 use model::code::Limits;
 use model::code::Role;
@@ -28,7 +29,11 @@ pub(crate) fn pair(bytes: &[u8], at: usize) -> u16
     requires { ⌜ at < 2 ^ 32 ⌝ }
     ensures { λ r. ⌜ r ≡ two (now (bytes .entry)) at ⌝ }
 {
-    byte(bytes, at) as u16 + 256 * byte(bytes, at + 1) as u16
+    if at + 2 <= bytes.len() {
+        bytes[at] as u16 + 256 * bytes[at + 1] as u16
+    } else {
+        byte(bytes, at) as u16 + 256 * byte(bytes, at + 1) as u16
+    }
 }
 
 fn shape(op: u8) -> Shape
@@ -258,6 +263,40 @@ fn check_fields(
     check_operands(limits, shape(op), at, p, q, r, target)
 }
 
+/// The six bytes of an instruction, its target as one number.
+#[derive(Clone, Copy)]
+pub(crate) struct Fields {
+    op: u8,
+    p: u8,
+    q: u8,
+    r: u8,
+    target: u16,
+}
+
+/// The fields at a position, with one test where all six bytes are there.
+fn read(bytes: &[u8], at: usize) -> Fields
+    requires { ⌜ at < 2 ^ 31 ⌝ }
+    ensures { λ f. ⌜ f ≡ fields-at (now (bytes .entry)) at ⌝ }
+{
+    if at + 6 <= bytes.len() {
+        Fields {
+            op: bytes[at],
+            p: bytes[at + 1],
+            q: bytes[at + 2],
+            r: bytes[at + 3],
+            target: bytes[at + 4] as u16 + 256 * bytes[at + 5] as u16,
+        }
+    } else {
+        Fields {
+            op: byte(bytes, at),
+            p: byte(bytes, at + 1),
+            q: byte(bytes, at + 2),
+            r: byte(bytes, at + 3),
+            target: pair(bytes, at + 4),
+        }
+    }
+}
+
 /// Checks the instruction at a position.
 pub(crate) fn check_instruction(limits: Limits, bytes: &[u8], at: usize) -> Result<(), TableFault>
     requires { ⌜ at < 2 ^ 31 ⌝ }
@@ -276,10 +315,18 @@ pub(crate) fn instruction(bytes: &[u8], at: usize) -> Instruction
     requires { ⌜ at < 2 ^ 31 ⌝ }
     ensures { λ i. ⌜ i ≡ instruction-at (now (bytes .entry)) at ⌝ }
 {
-    let op = byte(bytes, at);
-    let p = byte(bytes, at + 1);
-    let q = byte(bytes, at + 2);
-    let r = byte(bytes, at + 3);
-    let target = pair(bytes, at + 4);
-    spelled(op, p, q, r, target)
+    let f = read(bytes, at);
+    spelled(f.op, f.p, f.q, f.r, f.target)
+}
+
+/// Where the instruction at a position goes aside, if it can.
+pub(crate) fn aside(bytes: &[u8], at: usize) -> Option<u16>
+    requires { ⌜ at < 2 ^ 31 ⌝ }
+    ensures { λ r. ⌜ r ≡ aside-of (instruction-at (now (bytes .entry)) at) ⌝ }
+{
+    if byte(bytes, at) == 7 {
+        Some(pair(bytes, at + 4))
+    } else {
+        None
+    }
 }

@@ -1,10 +1,11 @@
 //! Reading a table, and asking what it says.
 ghost use mathlib.Core.Path.{_≡_};
+ghost use Prim.Native.Nat.{_<_};
 ghost use lib.ListN.{length};
 ghost use Rattle.std.specs.Finite.{nth};
-ghost use Rattle.std.specs.Options.{mapped};
+ghost use Rattle.std.specs.Options.{mapped, Cases};
 ghost use Rattle.std.specs.Vec.{made};
-ghost use Rattle.model.specs.Table.{decode, fetch, placed};
+ghost use Rattle.model.specs.Table.{aside-of, decode, fetch, placed};
 ghost use Rattle.table.specs.Said.{said, answered, begins};
 use crate::fields;
 use crate::lookup;
@@ -78,9 +79,17 @@ impl<'a> Table<'a> {
 
     /// The instruction of a thread at a place; none past the end, or where there is no such thread.
     pub fn instruction(&self, thread: u8, place: u16) -> Option<Instruction>
-        ensures { λ r. ⌜ r ≡ fetch (said (now (self .entry))) thread place ⌝ }
+        ensures answer { λ r. ⌜ r ≡ fetch (said (now (self .entry))) thread place ⌝ }
+        ensures room { λ r. ⌜ Cases r (Unit {0}) (λ _. place < 65535) ⌝ }
     {
         lookup::instruction(self.bytes, thread, place)
+    }
+
+    /// Where the instruction of a thread at a place goes aside, if it can; none where there is no instruction.
+    pub fn aside(&self, thread: u8, place: u16) -> Option<Option<u16>>
+        ensures { λ r. ⌜ r ≡ mapped aside-of (fetch (said (now (self .entry))) thread place) ⌝ }
+    {
+        lookup::aside(self.bytes, thread, place)
     }
 
     /// A place of this table in the measure of its kind.

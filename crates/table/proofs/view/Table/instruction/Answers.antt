@@ -3,4 +3,10 @@ use Rattle.table.proofs.Fetch.{fetched}
 use Rattle.table.proofs.view.Table.instruction.Needs as need
 
 pub returns : need.returns
-returns c = c .instruction .ensures ∙ fetched (c .args .self .now .bytes .now) (c .args .thread) (c .args .place)
+returns c =
+    record {
+      answer =
+          c .instruction .ensures .answer
+          ∙ fetched (c .args .self .now .bytes .now) (c .args .thread) (c .args .place);
+      room = c .instruction .ensures .room;
+    }
