@@ -1,0 +1,4 @@
+mod Apart
+mod Law
+mod Past
+mod Steps
