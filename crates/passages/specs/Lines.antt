@@ -9,8 +9,12 @@ use Rattle.memory.specs.declared.calls.Call.the-variants.{Clear, Look, Word, Id
 use Rattle.memory.specs.declared.calls.Reply.{Reply}
 use Rattle.memory.specs.declared.calls.Reply.the-variants.{Done, Number, Exchanged, Refused}
 use Rattle.model.specs.Refusals.{memory-refusal}
-use Rattle.model.specs.Text.{memory-fault-text, refusal-text}
+use Rattle.model.specs.Text.{instruction-text, memory-fault-text, place-text, refusal-text}
 use Rattle.passages.specs.declared.asked.Asked.{Asked}
+use Rattle.passages.specs.declared.stepped.Change.{Change}
+use Rattle.passages.specs.declared.stepped.Change.the-variants as change
+use Rattle.passages.specs.declared.stepped.Change.the-variants.{Register, Nothing}
+use Rattle.passages.specs.declared.stepped.Stepped.{Stepped}
 
 abbrev pub call-text : Call → List ℕ
 call-text Clear = codes "clear"
@@ -31,3 +35,12 @@ reply-text (Refused f) = refusal-text (memory-refusal f) ++ (codes ": " ++ memor
 
 abbrev pub asked-text : Asked → List ℕ
 asked-text a = call-text (a .question .call) ++ (codes ": " ++ reply-text (a .answer .reply))
+
+abbrev pub change-text : Change → List ℕ
+change-text (Register r v) = codes "register " ++ (decimal r ++ (codes " is " ++ decimal v))
+change-text (change.Word x v) = codes "word " ++ (decimal x ++ (codes " is " ++ decimal v))
+change-text Nothing = codes "only its place changes"
+
+abbrev pub stepped-text : Stepped → List ℕ
+stepped-text s =
+    codes "thread " ++ (decimal (s .thread) ++ (codes ", " ++ (place-text (s .place) ++ (codes ": " ++ (instruction-text (s .instruction) ++ (codes "; " ++ change-text (s .change)))))))

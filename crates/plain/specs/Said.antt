@@ -58,3 +58,6 @@ is-none None = true
 
 abbrev pub has-ended : Run → ℕ → Option Bool
 has-ended r t = given (has-thread r t) (is-none (next-of r t))
+
+abbrev pub instruction-at-hand : Run → ℕ → Option Instruction
+instruction-at-hand r t = fetch (runs r) t (thread-at r t .place)

@@ -1,9 +1,10 @@
 //! What a run holds.
 ghost use mathlib.Core.Path.{_≡_};
 ghost use Rattle.table.specs.Said.{said};
-ghost use Rattle.plain.specs.Said.{runs, word-at, place-at, link-at, register-at, has-ended};
+ghost use Rattle.plain.specs.Said.{instruction-at-hand, runs, word-at, place-at, link-at, register-at, has-ended};
 use crate::cells;
 use crate::run::Run;
+use model::code::Instruction;
 use model::places::Place;
 use table::view::Table;
 
@@ -36,6 +37,14 @@ impl<'a> Run<'a> {
         } else {
             None
         }
+    }
+
+    /// The instruction that a thread is at; none where it has ended, or where the table has no such thread.
+    pub fn instruction(&self, thread: u8) -> Option<Instruction>
+        ensures { λ r. ⌜ r ≡ instruction-at-hand (now (self .entry)) thread ⌝ }
+    {
+        let at = cells::place(&self.state.threads, thread);
+        self.table.instruction(thread, at)
     }
 
     /// The place that BACK goes to; none where the table has no such thread.
