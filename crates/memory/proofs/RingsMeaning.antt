@@ -49,44 +49,43 @@ module _ (r : Rings) (t : ℕ) (lt : t < 4) where
       let there : ltb t 4 ≡ true = lt-ltb t 4 lt in
       rw (there, length-pending)
 
-  module _ (x : ℕ) (wt : x < 8) where
-    module _ (v : ℕ) where
-      abbrev store : Store
-      store = record { word = x; value = v }
+  module _ (x : ℕ) (wt : x < 8) (v : ℕ) where
+    abbrev store : Store
+    store = record { word = x; value = v }
 
-      module _ (few : count-of r t < 64) (places : length (r .places) ≡ 256) (counts : length (r .counts) ≡ 4) where
-        own : ring-of (rings-put r t store) t ≡ pending-of (rings-value r) t ++ store ∷ []
-        own =
-            let within : t < length (r .counts) = omega arith in
-            ap (ring (rings-put r t store .places) t (head-of r t)) (getD-set-same (r .counts) t (count-of r t + 1) 0 within)
-            ∙ ring-push (r .places) t store (count-of r t) (head-of r t) lt few places
-            ∙ ap (λ (ss : List Store). ss ++ store ∷ []) (sym pending-is)
+    module _ (few : count-of r t < 64) (places : length (r .places) ≡ 256) (counts : length (r .counts) ≡ 4) where
+      own : ring-of (rings-put r t store) t ≡ pending-of (rings-value r) t ++ store ∷ []
+      own =
+          let within : t < length (r .counts) = omega arith in
+          ap (ring (rings-put r t store .places) t (head-of r t)) (getD-set-same (r .counts) t (count-of r t + 1) 0 within)
+          ∙ ring-push (r .places) t store (count-of r t) (head-of r t) lt few places
+          ∙ ap (λ (ss : List Store). ss ++ store ∷ []) (sym pending-is)
 
-        others : (k : ℕ) → k ≢ t → ring-of (rings-put r t store) k ≡ ring-of r k
-        others k ne =
-            ap (ring (rings-put r t store .places) k (head-of r k)) (getD-set-other (r .counts) t k (count-of r t + 1) 0 ne)
-            ∙ ring-other (r .places) t k store (head-of r t + count-of r t) (count-of r k) (head-of r k) ne
+      others : (k : ℕ) → k ≢ t → ring-of (rings-put r t store) k ≡ ring-of r k
+      others k ne =
+          ap (ring (rings-put r t store .places) k (head-of r k)) (getD-set-other (r .counts) t k (count-of r t + 1) 0 ne)
+          ∙ ring-other (r .places) t k store (head-of r t + count-of r t) (count-of r k) (head-of r k) ne
 
-        pub put-is : put (rings-value r) t x v ≡ Ok (rings-value (rings-put r t store))
-        put-is =
-            let there : ltb t 4 ≡ true = lt-ltb t 4 lt in
-            let word-there : ltb x 8 ≡ true = lt-ltb x 8 wt in
-            let more : ltb (length (pending-of (rings-value r) t)) 64 ≡ true = lt-ltb (length (pending-of (rings-value r) t)) 64 (omega (arith, length-pending)) in
-            let lists : map (ring-of (rings-put r t store)) (counting 0 4) ≡ set (map (ring-of r) (counting 0 4)) t (pending-of (rings-value r) t ++ store ∷ []) =
-            set-four (ring-of r) (ring-of (rings-put r t store)) t lt (pending-of (rings-value r) t ++ store ∷ []) own others in
-            let taken : put (rings-value r) t x v ≡ Ok (appended (rings-value r) t x v) = rw (there, word-there, more) in
-            taken ∙ sym (ap (λ (ls : List (List Store)). valued (r .words) ls) lists)
+      pub put-is : put (rings-value r) t x v ≡ Ok (rings-value (rings-put r t store))
+      put-is =
+          let there : ltb t 4 ≡ true = lt-ltb t 4 lt in
+          let word-there : ltb x 8 ≡ true = lt-ltb x 8 wt in
+          let more : ltb (length (pending-of (rings-value r) t)) 64 ≡ true = lt-ltb (length (pending-of (rings-value r) t)) 64 (omega (arith, length-pending)) in
+          let lists : map (ring-of (rings-put r t store)) (counting 0 4) ≡ set (map (ring-of r) (counting 0 4)) t (pending-of (rings-value r) t ++ store ∷ []) =
+          set-four (ring-of r) (ring-of (rings-put r t store)) t lt (pending-of (rings-value r) t ++ store ∷ []) own others in
+          let taken : put (rings-value r) t x v ≡ Ok (appended (rings-value r) t x v) = rw (there, word-there, more) in
+          taken ∙ sym (ap (λ (ls : List (List Store)). valued (r .words) ls) lists)
 
-        pub put-sound : (q : Rings) → q ≡ rings-put r t store → Sound r → Sound q
-        put-sound q e sound =
-            let P : Rings → Type 0 = λ p. Sound p in
-            subst P (sym e) (
-              sound .0,
-              (
-                set-keeps (λ n. n ≤ 64) 0 (count-of r t + 1) (omega arith) (r .counts) t (sound .1 .0),
-                (set-keeps (λ o. o .word < 8) no-store store wt (r .places) (place t (head-of r t + count-of r t)) (sound .1 .1 .0), tt),
-              ),
-            )
+      pub put-sound : (q : Rings) → q ≡ rings-put r t store → Sound r → Sound q
+      put-sound q e sound =
+          let P : Rings → Type 0 = λ p. Sound p in
+          subst P (sym e) (
+            sound .0,
+            (
+              set-keeps (λ n. n ≤ 64) 0 (count-of r t + 1) (omega arith) (r .counts) t (sound .1 .0),
+              (set-keeps (λ o. o .word < 8) no-store store wt (r .places) (place t (head-of r t + count-of r t)) (sound .1 .1 .0), tt),
+            ),
+          )
 
   module _ (some : 0 < count-of r t) (heads : length (r .heads) ≡ 4) (counts : length (r .counts) ≡ 4) where
     abbrev rest : List Store

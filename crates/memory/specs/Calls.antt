@@ -25,7 +25,7 @@ abbrev pub exchanged : Answer Bool → Reply
 exchanged (Ok b) = Exchanged b
 exchanged (Err f) = Refused f
 
--- no memory that is made has no depth
+-- a memory with no limit would say 0; every memory that runs has one
 abbrev pub depth-number : Option ℕ → ℕ
 depth-number None = 0
 depth-number (Some d) = d

@@ -43,8 +43,8 @@ impl<'a> Run<'a> {
     pub fn instruction(&self, thread: u8) -> Option<Instruction>
         ensures { λ r. ⌜ r ≡ instruction-at-hand (now (self .entry)) thread ⌝ }
     {
-        let at = cells::place(&self.state.threads, thread);
-        self.table.instruction(thread, at)
+        self.table
+            .instruction(thread, cells::place(&self.state.threads, thread))
     }
 
     /// The place that BACK goes to; none where the table has no such thread.
