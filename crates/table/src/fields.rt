@@ -2,7 +2,7 @@
 ghost use mathlib.Core.Path.{_≡_};
 ghost use Prim.Native.Nat.{_+_, _<_, _^_};
 ghost use lib.ListN.{getD};
-ghost use Rattle.model.specs.Table.{demand, two, shape as shape-by-op, instruction-of, field-limit, target-limit, operands-fault, fields-fault, instruction-fault, instruction-at, aside-of};
+ghost use Rattle.model.specs.Table.{demand, two, shape as shape-by-op, shape-of, instruction-of, field-limit, target-limit, operands-fault, fields-fault, instruction-fault, instruction-at, aside-of};
 ghost use Rattle.table.specs.Entries.{fields-at};
 use model::code::Instruction;
 use model::code::Limits;
@@ -36,6 +36,12 @@ pub(crate) fn pair(bytes: &[u8], at: usize) -> u16
     }
 }
 
+fn shaped(p: Role, q: Role, r: Role, aims: bool) -> Shape
+    ensures { λ s. ⌜ s ≡ shape-of p q r aims ⌝ }
+{
+    Shape { p, q, r, aims }
+}
+
 fn shape(op: u8) -> Shape
     ensures { λ r. ⌜ r ≡ shape-by-op op ⌝ }
 {
@@ -44,108 +50,23 @@ fn shape(op: u8) -> Shape
     use Role::Unused;
     use Role::Word;
     match op {
-        0 => Shape {
-            p: Register,
-            q: Unused,
-            r: Constant,
-            aims: false,
-        },
-        1 => Shape {
-            p: Register,
-            q: Register,
-            r: Unused,
-            aims: false,
-        },
-        2 => Shape {
-            p: Register,
-            q: Register,
-            r: Unused,
-            aims: false,
-        },
-        3 => Shape {
-            p: Register,
-            q: Unused,
-            r: Constant,
-            aims: false,
-        },
-        4 => Shape {
-            p: Unused,
-            q: Unused,
-            r: Unused,
-            aims: true,
-        },
-        5 => Shape {
-            p: Register,
-            q: Unused,
-            r: Constant,
-            aims: true,
-        },
-        6 => Shape {
-            p: Register,
-            q: Register,
-            r: Unused,
-            aims: true,
-        },
-        7 => Shape {
-            p: Unused,
-            q: Unused,
-            r: Unused,
-            aims: true,
-        },
-        8 => Shape {
-            p: Register,
-            q: Register,
-            r: Unused,
-            aims: false,
-        },
-        9 => Shape {
-            p: Register,
-            q: Word,
-            r: Unused,
-            aims: false,
-        },
-        10 => Shape {
-            p: Word,
-            q: Register,
-            r: Unused,
-            aims: false,
-        },
-        11 => Shape {
-            p: Unused,
-            q: Unused,
-            r: Unused,
-            aims: false,
-        },
-        12 => Shape {
-            p: Word,
-            q: Register,
-            r: Register,
-            aims: false,
-        },
-        13 => Shape {
-            p: Register,
-            q: Unused,
-            r: Constant,
-            aims: false,
-        },
-        14 => Shape {
-            p: Unused,
-            q: Unused,
-            r: Unused,
-            aims: true,
-        },
-        15 => Shape {
-            p: Unused,
-            q: Unused,
-            r: Unused,
-            aims: true,
-        },
-        _ => Shape {
-            p: Unused,
-            q: Unused,
-            r: Unused,
-            aims: false,
-        },
+        0 => shaped(Register, Unused, Constant, false),
+        1 => shaped(Register, Register, Unused, false),
+        2 => shaped(Register, Register, Unused, false),
+        3 => shaped(Register, Unused, Constant, false),
+        4 => shaped(Unused, Unused, Unused, true),
+        5 => shaped(Register, Unused, Constant, true),
+        6 => shaped(Register, Register, Unused, true),
+        7 => shaped(Unused, Unused, Unused, true),
+        8 => shaped(Register, Register, Unused, false),
+        9 => shaped(Register, Word, Unused, false),
+        10 => shaped(Word, Register, Unused, false),
+        11 => shaped(Unused, Unused, Unused, false),
+        12 => shaped(Word, Register, Register, false),
+        13 => shaped(Register, Unused, Constant, false),
+        14 => shaped(Unused, Unused, Unused, true),
+        15 => shaped(Unused, Unused, Unused, true),
+        _ => shaped(Unused, Unused, Unused, false),
     }
 }
 
