@@ -10,9 +10,9 @@ use Rattle.std.specs.declared.result.Result.{Result}
 use Rattle.std.specs.declared.result.Result.the-variants.{Ok, Err}
 use Rattle.model.specs.Action.{register, way-of}
 use Rattle.model.specs.Encoding.{encode}
-use Rattle.model.specs.Plain.{new-run, step, thread-of}
+use Rattle.model.specs.Plain.{new-run, step, thread-of, unheld}
 use Rattle.model.specs.Registers.{Layout, now, drain, index}
-use Rattle.model.specs.Runs.{Call}
+use Rattle.model.specs.Runs.{Call, byte-step}
 use Rattle.model.specs.Steps.{then}
 use Rattle.model.specs.StoreBuffer.{line-byte}
 use Rattle.model.specs.Table.{Program, decode, fetch}
@@ -30,7 +30,6 @@ use Rattle.model.specs.declared.state.Line.{Line}
 use Rattle.model.specs.declared.faults.Given.the-variants.{First, Second}
 use Rattle.model.specs.declared.faults.TableFault.the-variants.{WrongKind}
 use Rattle.model.specs.declared.faults.StepsFault.{StepsFault}
-use Rattle.model.specs.declared.faults.StepsFault.the-variants as steps-fault
 use Rattle.model.specs.declared.faults.ScheduleFault.{ScheduleFault}
 use Rattle.model.specs.declared.faults.ScheduleFault.the-variants as fault
 
@@ -186,19 +185,16 @@ logged-run p q s g (c ∷ cs) =
           cs
     ]
 
--- a list of step bytes, thread + 4 × way, each of which has to be granted
+-- a list of step bytes, each of which has to be granted
 abbrev pub logged-bytes : Program → Program → ℕ → State → Log → List ℕ → Result (State × Log) StepsFault
 logged-bytes p q n s g [] = Ok (s, g)
 logged-bytes p q n s g (b ∷ bs) =
-    elim (ltb b 8) [
-      | false ↦ Err (steps-fault.Byte n)
-      | true ↦ elim (step q s (b % 4) (b / 4)) [
-        | Err f ↦ Err (steps-fault.Step n f)
-        | Ok s′ ↦
-            logged-bytes p q (n + 1) s′
-            (logged p q g (b % 4) (way-or-next (way-of (b / 4))) (thread-of (s .threads) (b % 4)) (thread-of (s′ .threads) (b % 4)))
-            bs
-      ]
+    elim (byte-step q s n b) [
+      | Err f ↦ Err f
+      | Ok s′ ↦
+          logged-bytes p q (n + 1) s′
+          (logged p q g (b % 4) (way-or-next (way-of (b / 4))) (thread-of (s .threads) (b % 4)) (thread-of (s′ .threads) (b % 4)))
+          bs
     ]
 
 -- the first place where two byte strings differ, if they do
@@ -236,10 +232,6 @@ is-translation p q second =
 abbrev pub listed : Program → Program → List ℕ → Writes (State × Log)
 listed p q list =
     elim (logged-bytes p q 0 new-run new-log list) [ Ok r ↦ Ok r | Err f ↦ Err (fault.Steps f) ]
-
-abbrev pub unheld : Option ℕ → Bool
-unheld None = true
-unheld (Some t) = false
 
 -- the bytes go to the front of the output, which keeps the rest
 abbrev pub scheduled : List ℕ → Log → Writes (Written × List ℕ)
