@@ -1,4 +1,7 @@
 //! Makes as many steps as the first argument says, of a table that standard input holds, and prints where they led.
+
+#![tactic(auto)]
+
 use anyhow::{Context, anyhow};
 use plain::run::Run;
 use std::env;

@@ -1,5 +1,7 @@
 //! Memories with pending stores: what each does, and layers over them.
 
+#![tactic(auto)]
+
 mod bounds;
 pub mod calls;
 pub mod compare;

@@ -1,5 +1,7 @@
 //! What the memories do on examples.
 
+#![tactic(auto)]
+
 #[cfg(test)]
 mod layers;
 #[cfg(test)]

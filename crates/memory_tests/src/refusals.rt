@@ -1,14 +1,13 @@
 //! Every refusal of every memory.
-use crate::script::{EMPTY, NOT_THERE, look, put, run, swap};
+use crate::script::{EMPTY, NOT_THERE, look, put, run_named, swap};
 use memory::calls::Call;
 use memory::interface::SharedMemory;
 use memory::narrow::Narrow;
 use memory::plain::PlainMemory;
 use memory::queue::QueueMemory;
 use std::process::Abort;
-use std::test::Fail;
 
-fn refuses<M: SharedMemory>(rt: &impl Abort, memory: &mut M) -> Result<(), Fail> {
+fn refuses<M: SharedMemory>(rt: &impl Abort, name: &str, memory: &mut M) {
     let script = [
         (look(4, 0), NOT_THERE),
         (look(0, 8), NOT_THERE),
@@ -23,13 +22,12 @@ fn refuses<M: SharedMemory>(rt: &impl Abort, memory: &mut M) -> Result<(), Fail>
         (swap(1, 0, 9), 2000),
         (Call::Word { word: 1 }, 7),
     ];
-    run(rt, memory, &script);
-    Ok(())
+    run_named(rt, name, memory, &script);
 }
 
 #[test]
-fn each_is_refused(rt: HostRuntime) -> Result<(), Fail> {
-    refuses(&rt, &mut PlainMemory::new()).note("plain")?;
-    refuses(&rt, &mut QueueMemory::new()).note("queue")?;
-    refuses(&rt, &mut Narrow::new(QueueMemory::new(), 3)).note("layer")
+fn each_is_refused(rt: HostRuntime) {
+    refuses(&rt, "plain", &mut PlainMemory::new());
+    refuses(&rt, "queue", &mut QueueMemory::new());
+    refuses(&rt, "layer", &mut Narrow::new(QueueMemory::new(), 3));
 }

@@ -21,11 +21,21 @@ fn told(reply: Reply) -> u16 {
     }
 }
 
+/// Makes the calls on the memory of that name, and checks what each answers.
+pub(crate) fn run_named<M: SharedMemory>(
+    rt: &impl Abort,
+    name: &str,
+    memory: &mut M,
+    script: &[(Call, u16)],
+) {
+    for (call, expected) in script {
+        assert_eq!(rt; told(make(memory, *call)), *expected, "{name}");
+    }
+}
+
 /// Makes the calls, and checks what each answers.
 pub(crate) fn run<M: SharedMemory>(rt: &impl Abort, memory: &mut M, script: &[(Call, u16)]) {
-    for (call, expected) in script {
-        assert_eq!(rt; told(make(memory, *call)), *expected);
-    }
+    run_named(rt, "memory", memory, script);
 }
 
 pub(crate) fn put(thread: u8, word: u8, value: u8) -> Call {

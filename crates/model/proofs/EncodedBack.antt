@@ -2,7 +2,7 @@
 use Rattle.std.proofs.Common.{◌≡◌, ℕ, zero, suc, ◌+◌, ◌*◌, ◌<◌, ◌≤◌, true, ◌&&◌, eqb, leb, ◌⊎◌, List, ◌++◌, length, get_or, drop, Ok, sym, refl, ap, ◌∙◌, subst, ⊎_elim, arith}
 use Rattle.std.proofs.lemmas.List.{append_assoc, append-nil, drop_all, drop_more}
 use Rattle.std.proofs.lemmas.Bool.{leb-true, eqb-true, and_parts, cases_eq}
-use Rattle.model.specs.Table.{decode, table_fault, header_fault, entries_end, codes_fault, codes_at, code_fault, code_at, instruction_fault, instruction_at, instruction_of, position, count, entry_at, limits, kind_of, within, ops, most_registers, most_instructions, least_rounds, most_rounds, program_of}
+use Rattle.model.specs.Table.{table_fault, header_fault, entries_end, codes_fault, codes_at, code_fault, code_at, instruction_fault, instruction_at, instruction_of, position, count, entry_at, limits, kind_of, within, ops, most_registers, most_instructions, least_rounds, most_rounds, program_of}
 use Rattle.model.specs.Encoding.{Bytes, six, encode, encode_instruction, encode_code, encode_codes, entries, kind_byte, InRange, EachInRange, CodeInRange, CodesInRange, WellFormed, ReadIsEncodedBack}
 use Rattle.model.specs.declared.code.Kind.{Kind}
 use Rattle.model.specs.declared.code.Instruction.{Instruction}

@@ -5,12 +5,11 @@ use Rattle.model.specs.Memory.{Memory}
 use Rattle.model.specs.Plain.{new_run, step, thread_of}
 use Rattle.model.specs.Refusals.{refusal, table_refusal, machine_refusal, replay_refusal, translate_refusal, schedule_refusal}
 use Rattle.model.specs.Runs.{Call, asked}
-use Rattle.model.specs.Schedule.{Written, new_log, logged_bytes, schedule}
+use Rattle.model.specs.Schedule.{new_log, logged_bytes, schedule}
 use Rattle.model.specs.StoreBuffer.{Machine, goal, replay}
-use Rattle.model.specs.Table.{Program, decode, program_of}
+use Rattle.model.specs.Table.{decode, program_of}
 use Rattle.model.specs.Translation.{translate, translated}
 use Rattle.model.specs.declared.state.State.{State}
-use Rattle.model.specs.declared.state.Thread.{Thread}
 use Rattle.model.specs.declared.faults.Refusal.{Refusal}
 use Rattle.model.specs.declared.faults.Layer.TheVariants as layer
 

@@ -1,5 +1,5 @@
 -- The schedule that a run of a translated table stands for.
-use Rattle.std.specs.Prelude.{ℕ, zero, suc, ◌+◌, ◌-◌, ◌*◌, ◌/◌, ◌%◌, max, Bool, true, false, cond, List, [], ◌∷◌, ◌++◌, map, length, get_or, drop, replicate, Some, None, Ok, Err, Option, Result, ◌==◌, nat_le, nat_lt, slice_index, slice_index_or, slice_set}
+use Rattle.std.specs.Prelude.{ℕ, ◌+◌, ◌-◌, ◌/◌, ◌%◌, max, Bool, true, false, cond, List, [], ◌∷◌, ◌++◌, map, length, get_or, drop, replicate, Some, None, Ok, Err, Option, Result, ◌==◌, nat_le, nat_lt, slice_index, slice_index_or, slice_set}
 use Rattle.model.specs.Action.{register, way_of}
 use Rattle.model.specs.Encoding.{encode}
 use Rattle.model.specs.Plain.{new_run, step, thread_of, unheld}
@@ -16,7 +16,7 @@ use Rattle.model.specs.declared.code.Kind.TheVariants as kind
 use Rattle.model.specs.declared.state.State.{State}
 use Rattle.model.specs.declared.state.Thread.{Thread}
 use Rattle.model.specs.declared.state.Way.{Way}
-use Rattle.model.specs.declared.state.Way.TheVariants.{Next, Aside}
+use Rattle.model.specs.declared.state.Way.TheVariants.{Next}
 use Rattle.model.specs.declared.state.Act.TheVariants.{Step, Drain}
 use Rattle.model.specs.declared.state.Line.{Line}
 use Rattle.model.specs.declared.faults.Given.TheVariants.{First, Second}

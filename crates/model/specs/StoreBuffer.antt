@@ -6,7 +6,6 @@ use Rattle.model.specs.Memory.{Memory, Answer, cleared, look, put, drain, idle, 
 use Rattle.model.specs.Plain.{new_thread, thread_of}
 use Rattle.model.specs.Table.{Program, decode, fetch, placed}
 use Rattle.model.specs.declared.code.Instruction.{Instruction}
-use Rattle.model.specs.declared.code.Kind.{Kind}
 use Rattle.model.specs.declared.code.Kind.TheVariants as kind
 use Rattle.model.specs.declared.state.Thread.{Thread}
 use Rattle.model.specs.declared.state.Way.{Way}

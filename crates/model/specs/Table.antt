@@ -13,7 +13,7 @@ use Rattle.model.specs.declared.code.Limits.{Limits}
 use Rattle.model.specs.declared.places.Place.{Place}
 use Rattle.model.specs.declared.places.Place.TheVariants as place
 use Rattle.model.specs.declared.faults.TableFault.{TableFault}
-use Rattle.model.specs.declared.faults.TableFault.TheVariants.{Length, Header, Entry, Op, Operand, WrongKind}
+use Rattle.model.specs.declared.faults.TableFault.TheVariants.{Length, Header, Entry, Op, Operand}
 
 -- what a table says: its kind, how many shared words and registers, its rounds, and each thread's code
 pub record Program : Type 0 where

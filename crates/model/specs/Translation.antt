@@ -1,7 +1,7 @@
 -- The translation of a source table: each source place becomes a block, and stores wait in registers.
-use Rattle.std.specs.Prelude.{ℕ, zero, suc, ◌+◌, ◌-◌, ◌*◌, Bool, true, false, cond, ◌&&◌, List, [], ◌∷◌, ◌++◌, length, drop, Some, None, Ok, Err, Option, Result, nat_le}
+use Rattle.std.specs.Prelude.{ℕ, zero, suc, ◌+◌, ◌-◌, ◌*◌, cond, List, [], ◌∷◌, ◌++◌, length, drop, Ok, Err, Result, nat_le}
 use Rattle.model.specs.Encoding.{encode}
-use Rattle.model.specs.Registers.{Layout, Name, src, now, drain, view, mask, queue, index, register_count}
+use Rattle.model.specs.Registers.{Layout, Name, now, drain, view, mask, queue, index, register_count}
 use Rattle.model.specs.Table.{Program, decode, within}
 use Rattle.model.specs.declared.code.Instruction.{Instruction}
 use Rattle.model.specs.declared.code.Instruction.TheVariants.{Set, Move, Add, Inc, Jump, IfEq, IfLt, Pick, Wait, Load, Store, Fence, Arw, Open, Shut, Call, Back}

@@ -1,5 +1,7 @@
 //! The words of the subject: the types and the definitions that every other crate shares.
 
+#![tactic(auto)]
+
 pub mod code;
 pub mod faults;
 pub mod laws;

@@ -1,14 +1,13 @@
 -- The calls that were granted suffice: alone they lead to the same end, each is granted again, and as bytes they are taken whole.
-use Rattle.std.proofs.Common.{◌≡◌, ℕ, ◌+◌, ◌*◌, ◌/◌, ◌%◌, ◌<◌, ◌≤◌, Bool, true, false, ◌&&◌, eqb, ltb, leb, List, [], ◌∷◌, length, get_or, Some, None, Ok, Err, Option, Result, sym, refl, ap, ◌∙◌, inl, inr, ⊎_elim, arith}
+use Rattle.std.proofs.Common.{◌≡◌, ℕ, ◌+◌, ◌*◌, ◌/◌, ◌%◌, ◌<◌, ◌≤◌, Bool, true, false, eqb, leb, List, [], ◌∷◌, length, get_or, Some, None, Ok, Err, Option, Result, sym, refl, ap, ◌∙◌, ⊎_elim, arith}
 use Rattle.std.proofs.lemmas.Bool.{cases_lt, lt-ltb, le-ltb, ne_eqb, cond-true, cond-false, and_parts, leb-true}
 use Rattle.model.specs.Action.{way_of}
 use Rattle.model.specs.Plain.{new_run, run_after, step, step_on, step_way, thread_of}
-use Rattle.model.specs.Runs.{Call, Ran, Suffice, Taken, GrantedSuffice, GrantedTaken, NewRuns, AllSteps, as_bytes, asked, granted, kept, at_index, byte_step, ran_on, ran_from}
+use Rattle.model.specs.Runs.{Call, Suffice, GrantedSuffice, GrantedTaken, NewRuns, AllSteps, as_bytes, asked, granted, kept, at_index, byte_step, ran_on, ran_from}
 use Rattle.model.specs.Steps.{then}
-use Rattle.model.specs.Table.{Program, Checked, decode, demand, fetch, table_fault, header_fault, program_of, within, codes_at}
+use Rattle.model.specs.Table.{Program, decode, demand, fetch, table_fault, header_fault, program_of, within}
 use Rattle.model.specs.declared.code.Instruction.{Instruction}
 use Rattle.model.specs.declared.state.State.{State}
-use Rattle.model.specs.declared.state.Way.{Way}
 use Rattle.model.specs.declared.faults.MachineFault.{MachineFault}
 use Rattle.model.specs.declared.faults.MachineFault.TheVariants.{NoThread}
 use Rattle.model.specs.declared.faults.StepsFault.{StepsFault}

@@ -1,5 +1,5 @@
 -- One byte of a list of steps, and what is left of the list after it.
-use Rattle.std.proofs.Common.{◌≡◌, ℕ, ◌+◌, ◌/◌, ◌%◌, ◌<◌, List, ◌∷◌, length, get_or, drop, Ok, Err, Result, sym, refl, ap, ◌∙◌, arith}
+use Rattle.std.proofs.Common.{◌≡◌, ℕ, ◌+◌, ◌/◌, ◌%◌, ◌<◌, List, length, get_or, drop, Ok, Err, Result, sym, refl, ap, ◌∙◌, arith}
 use Rattle.std.proofs.lemmas.List.{at_drop_more}
 use Rattle.std.proofs.lemmas.Bool.{lt-ltb, cond-true}
 use Rattle.model.specs.Plain.{answer_of, run_after, step}
@@ -8,7 +8,7 @@ use Rattle.model.specs.Table.{Program}
 use Rattle.model.specs.declared.state.State.{State}
 use Rattle.model.specs.declared.faults.MachineFault.{MachineFault}
 use Rattle.model.specs.declared.faults.StepsFault.{StepsFault}
-use Rattle.model.specs.declared.faults.StepsFault.TheVariants.{Byte, Step}
+use Rattle.model.specs.declared.faults.StepsFault.TheVariants.{Step}
 
 index_err : (i : ℕ) (r : Result State MachineFault) (f : MachineFault) → Err f ≡ answer_of r → Err (Step i f) ≡ answer_of (at_index i r)
 index_err i (Ok s) f e = let z : ◌≡◌ {A = ℕ} 0 1 = cc in absurd (omega arith)

@@ -1,6 +1,6 @@
 -- What one instruction does to a run.
-use Rattle.std.specs.Prelude.{ℕ, ◌+◌, Bool, true, false, cond, Some, None, Ok, Err, Option, Result, ◌==◌}
-use Rattle.model.specs.Action.{Action, about, goes}
+use Rattle.std.specs.Prelude.{ℕ, ◌+◌, Bool, true, false, cond, Some, None, Err, Option, Result, ◌==◌}
+use Rattle.model.specs.Action.{about, goes}
 use Rattle.model.specs.Plain.{performed, thread_of, with_thread, may_step, or_refused}
 use Rattle.model.specs.Table.{Program, placed}
 use Rattle.model.specs.declared.code.Instruction.{Instruction}

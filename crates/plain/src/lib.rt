@@ -1,5 +1,7 @@
 //! The plain machine: a run of a table, one step at a time.
 
+#![tactic(auto)]
+
 mod acts;
 mod cells;
 pub mod laws;

@@ -1,5 +1,7 @@
 //! The plain machine on small tables.
 
+#![tactic(auto)]
+
 #[cfg(test)]
 mod tests {
     use model::faults::{MachineFault, StepsFault, TableFault};
@@ -85,17 +87,21 @@ mod tests {
     ];
 
     // Asks steps, each by its thread and way, and compares the numbers and places of the refusals; 0 and 0 is granted.
-    fn ask(rt: &impl Abort, run: &mut Run, rows: &[(u8, u8, u8, usize)]) -> Result<(), Fail> {
+    fn ask(rt: &impl Abort, run: &mut Run, rows: &[(u8, u8, u8, usize)]) {
+        ask_noting(rt, run, rows, "step");
+    }
+
+    // The same with a note on what is tried.
+    fn ask_noting(rt: &impl Abort, run: &mut Run, rows: &[(u8, u8, u8, usize)], note: &str) {
         for &(thread, way, number, place) in rows {
             match run.step(thread, way) {
-                Ok(()) => assert_eq!(rt; (number, place), (0, 0)),
+                Ok(()) => assert_eq!(rt; (number, place), (0, 0), "{note}"),
                 Err(fault) => {
                     let refusal = fault.refusal();
-                    assert_eq!(rt; (number, place), (refusal.number, refusal.place))
+                    assert_eq!(rt; (number, place), (refusal.number, refusal.place), "{note}")
                 }
             }
         }
-        Ok(())
     }
 
     fn begun(bytes: &[u8]) -> Result<Run, Fail> {
@@ -138,14 +144,15 @@ mod tests {
             &rt,
             &mut run,
             &[(0, 0, 11, 22), (0, 9, 11, 22), (1, 0, 9, 1)],
-        )
+        );
+        Ok(())
     }
 
     #[test]
     fn a_step_lacks_what_it_needs(rt: HostRuntime) -> Result<(), Fail> {
         let mut run = begun(&STUCK)?;
         let granted = [(0, 0, 0, 0), (1, 0, 0, 0)];
-        ask(&rt, &mut run, &granted)?;
+        ask(&rt, &mut run, &granted);
         let refused = [
             (0, 0, 11, 1),
             (0, 1, 10, 1),
@@ -154,8 +161,8 @@ mod tests {
             (2, 0, 11, 0),
             (3, 0, 11, 0),
         ];
-        ask(&rt, &mut run, &refused)?;
-        ask(&rt, &mut run, &refused).note("a refusal changes nothing")?;
+        ask(&rt, &mut run, &refused);
+        ask_noting(&rt, &mut run, &refused, "a refusal changes nothing");
         assert_eq!(rt; run.word(0), Some(0));
         assert_eq!(rt; run.holder(), None);
         Ok(())
@@ -168,16 +175,16 @@ mod tests {
             &rt,
             &mut run,
             &[(0, 0, 0, 0), (1, 0, 11, 0), (1, 1, 11, 0), (1, 2, 10, 0)],
-        )?;
+        );
         assert_eq!(rt; run.holder(), Some(0));
         ask(
             &rt,
             &mut run,
             &[(0, 1, 0, 0), (0, 0, 0, 0), (1, 1, 0, 0), (1, 0, 0, 0)],
-        )?;
+        );
         assert_eq!(rt; run.holder(), None);
         assert_eq!(rt; run.register(1, 0), Some(1));
-        ask(&rt, &mut run, &[(0, 0, 0, 0), (0, 0, 0, 0), (0, 0, 11, 2)])?;
+        ask(&rt, &mut run, &[(0, 0, 0, 0), (0, 0, 0, 0), (0, 0, 11, 2)]);
         assert_eq!(rt; run.register(0, 0), Some(2));
         Ok(())
     }
@@ -185,13 +192,13 @@ mod tests {
     #[test]
     fn a_thread_ends_inside(rt: HostRuntime) -> Result<(), Fail> {
         let mut run = begun(&INSIDE)?;
-        ask(&rt, &mut run, &[(1, 0, 0, 0), (1, 0, 0, 0), (1, 0, 0, 0)])?;
+        ask(&rt, &mut run, &[(1, 0, 0, 0), (1, 0, 0, 0), (1, 0, 0, 0)]);
         assert_eq!(rt;
             run.register(1, 0),
             Some(2),
             "BACK before any CALL goes to 0"
         );
-        ask(&rt, &mut run, &[(0, 0, 0, 0), (1, 0, 11, 1), (0, 0, 11, 1)])?;
+        ask(&rt, &mut run, &[(0, 0, 0, 0), (1, 0, 11, 1), (0, 0, 11, 1)]);
         assert_eq!(rt; run.ended(0), Some(true));
         Ok(())
     }
@@ -201,9 +208,10 @@ mod tests {
         let mut bytes = [0; 8410];
         bytes[0..16].copy_from_slice(&[1, 1, 1, 1, 1, 1, 10, 0, 120, 5, 4, 0, 0, 0, 119, 5]);
         let mut run = begun(&bytes)?;
-        ask(&rt, &mut run, &[(0, 0, 0, 0)])?;
+        ask(&rt, &mut run, &[(0, 0, 0, 0)]);
         assert_eq!(rt; at(run.place(0)), Some(1399));
-        ask(&rt, &mut run, &[(0, 0, 0, 0), (0, 0, 11, 1400)])
+        ask(&rt, &mut run, &[(0, 0, 0, 0), (0, 0, 11, 1400)]);
+        Ok(())
     }
 
     #[test]

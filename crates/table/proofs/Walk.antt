@@ -1,5 +1,5 @@
 -- One turn of each of the reader's loops: what is left to check, one step on or at its fault.
-use Rattle.std.proofs.Common.{◌≡◌, ℕ, suc, ◌+◌, ◌-◌, ◌*◌, ◌<◌, List, Ok, Err, Result, sym, refl, ap, ◌∙◌, arith}
+use Rattle.std.proofs.Common.{◌≡◌, ℕ, suc, ◌+◌, ◌-◌, ◌*◌, ◌<◌, List, Ok, Err, Result, ap, ◌∙◌, arith}
 use Rattle.model.specs.declared.code.Kind.{Kind}
 use Rattle.model.specs.declared.code.Limits.{Limits}
 use Rattle.model.specs.declared.faults.TableFault.{TableFault}

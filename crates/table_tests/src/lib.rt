@@ -1,5 +1,7 @@
 //! Tests of the reader: tables at the edge of every range, and the refusals past it.
 
+#![tactic(auto)]
+
 #[cfg(test)]
 mod codes;
 #[cfg(test)]

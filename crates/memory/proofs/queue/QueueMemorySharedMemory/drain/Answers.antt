@@ -4,14 +4,15 @@ use Rattle.memory.specs.Rings.{count_of, rings_value}
 use Rattle.memory.proofs.RingsMeaning.{drain_is, drain_sound}
 use Rattle.memory.proofs.queue.QueueMemorySharedMemory.drain.Goals as goal
 
-pub invariant-of-self : goal.invariant-of-self
-invariant-of-self c =
+pub invariant_of-self : goal.invariant_of-self
+invariant_of-self c =
     let r = c.args.self.now.rings in
     let t = c.args.thread in
     let lt : t < 4 = search rules in
     let some : 0 < count_of r t = search rules in
-    drain_sound r t lt some c.write-oldest.ensures.whole.heads c.write-oldest.ensures.whole.counts c.write-oldest.new.self c.write-oldest.ensures.after
-    (c.args.self.now.turned, (c.args.self.now.counted, (c.args.self.now.worded, tt)))
+    let s = drain_sound r t lt some c.write_oldest.ensures.whole.heads c.write_oldest.ensures.whole.counts c.write_oldest.new.self c.write_oldest.ensures.after
+    (c.args.self.now.turned, (c.args.self.now.counted, (c.args.self.now.worded, tt))) in
+    record { turned = s.0; counted = s.1.0; worded = s.1.1.0 }
 
 pub returns : goal.returns
 returns c =
@@ -19,8 +20,8 @@ returns c =
     let t = c.args.thread in
     let lt : t < 4 = search rules in
     let some : 0 < count_of r t = search rules in
-    let e = drain_is r t lt some c.write-oldest.ensures.whole.heads c.write-oldest.ensures.whole.counts in
+    let e = drain_is r t lt some c.write_oldest.ensures.whole.heads c.write_oldest.ensures.whole.counts in
     record {
       answer = sym (ap said e);
-      after = ap rings_value c.write-oldest.ensures.after ∙ sym (ap (left (rings_value r)) e);
+      after = ap rings_value c.write_oldest.ensures.after ∙ sym (ap (left (rings_value r)) e);
     }

@@ -1,28 +1,27 @@
-use Rattle.std.proofs.Common.{◌≡◌, ℕ, ◌+◌, ◌<◌, length, get_or, drop, Ok, Err, sym, ap, ◌∙◌, arith}
+use Rattle.std.proofs.Common.{◌≡◌, drop, Ok, Err, sym, ap, ◌∙◌, arith}
 use Rattle.std.proofs.lemmas.List.{at_drop_all}
 use Rattle.std.proofs.lemmas.Result.{err_from_is_err_and}
-use Rattle.model.specs.Plain.{run_after}
-use Rattle.model.specs.Runs.{Ran, byte_step, ran_from}
+use Rattle.model.specs.Runs.{Ran, ran_from}
 use Rattle.plain.specs.Said.{runs}
 use Rattle.plain.proofs.Steps.{ran_more, ran_stop}
 use Rattle.plain.proofs.run.Run.steps.Goals as goal
 
-pub returns-in-err-step-byte : goal.returns-in-err-step-byte
-returns-in-err-step-byte c =
-    let p = err_from_is_err_and c.from-residual.result c.from-residual.ensures.1 in
-    let stop = ran_stop (runs c.loop-index.self) c.loop-index.self.state c.args.list.now c.loop-index.index c.loop-index-test.true _ c.in-err-step-byte.ensures.answer in
+pub returns-in_err-step_byte : goal.returns-in_err-step_byte
+returns-in_err-step_byte c =
+    let p = err_from_is_err_and c.from_residual.result c.from_residual.ensures.1 in
+    let stop = ran_stop (runs c.loop-index.self) c.loop-index.self.state c.args.list.now c.loop-index.index c.loop-index-test.true _ c.in_err-step_byte.ensures.answer in
     record {
       answer = p.1 ∙ ap Err p.2 ∙ sym (ap (λ (r : Ran). r.answer) stop) ∙ ap (λ (r : Ran). r.answer) c.loop-index.invariant.0;
-      after = c.step-byte.ensures.after ∙ sym (ap (λ (r : Ran). r.state) stop) ∙ ap (λ (r : Ran). r.state) c.loop-index.invariant.0;
-      table = c.step-byte.ensures.table ∙ c.loop-index.invariant.1;
+      after = c.step_byte.ensures.after ∙ sym (ap (λ (r : Ran). r.state) stop) ∙ ap (λ (r : Ran). r.state) c.loop-index.invariant.0;
+      table = c.step_byte.ensures.table ∙ c.loop-index.invariant.1;
     }
 
 pub loop-index-preserved : goal.loop-index-preserved
 loop-index-preserved c =
-    let more = ran_more (runs c.loop-index.self) c.loop-index.self.state c.args.list.now c.loop-index.index c.loop-index-test.true c.in-ok-step-byte.ensures.answer in
-    let same = c.step-byte.ensures.table in
-    let after = c.step-byte.ensures.after in
-    (cc, c.step-byte.ensures.table ∙ c.loop-index.invariant.1)
+    let more = ran_more (runs c.loop-index.self) c.loop-index.self.state c.args.list.now c.loop-index.index c.loop-index-test.true c.in_ok-step_byte.ensures.answer in
+    let same = c.step_byte.ensures.table in
+    let after = c.step_byte.ensures.after in
+    (cc, c.step_byte.ensures.table ∙ c.loop-index.invariant.1)
 
 pub returns : goal.returns
 returns c =
