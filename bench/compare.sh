@@ -5,7 +5,7 @@ set -euo pipefail
 cd "$(dirname "$0")/.."
 steps=${1:-100000000}
 rounds=${2:-5}
-test -x target/bin/bench || rt check bench
+(cd crates/bench && rt run -- 1 <stdin >/dev/null)
 mkdir -p target/bench
 rustc --edition 2024 -O -o target/bench/plain bench/plain.rs
 TIMEFORMAT=%U
@@ -17,7 +17,7 @@ best() { # the smaller of two times, of which the first may be missing
 }
 rattle='' rust=''
 for _ in $(seq "$rounds"); do
-    rattle=$(best "$rattle" "$(timed target/bin/bench target/bench/rattle.sum)")
+    rattle=$(best "$rattle" "$(timed crates/bench/out/bench target/bench/rattle.sum)")
     rust=$(best "$rust" "$(timed target/bench/plain target/bench/rust.sum)")
 done
 cmp target/bench/rattle.sum target/bench/rust.sum

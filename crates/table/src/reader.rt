@@ -1,6 +1,6 @@
 //! Checking a table: the first fault in the order of the format, or none.
 ghost use Rattle.std.specs.Prelude.{◌≡◌, ◌+◌, ◌*◌, ◌^◌, ◌<◌, ◌≤◌, length, slice_index};
-ghost use Rattle.model.specs.Table.{count as thread_count, position as thread_position, limits as thread_limits, kind_of, within as between, ops as op_count, most_registers as register_limit, least_rounds as round_least, most_rounds as round_limit, most_instructions as instruction_limit, entry_at as entry_IsPlace, entry_fault, header_fault, entries_end, code_fault, thread_fault, codes_fault, table_fault};
+ghost use Rattle.model.specs.Table.{count as thread_count, position as thread_position, limits as thread_limits, kind_of, within as between, ops as op_count, most_registers as register_limit, least_rounds as round_least, most_rounds as round_limit, most_instructions as instruction_limit, entry_at as entry_place, entry_fault, header_fault, entries_end, code_fault, thread_fault, codes_fault, table_fault};
 
 use crate::fields::{byte, check_instruction, pair, require};
 use model::code::{Kind, Limits};
@@ -92,7 +92,7 @@ fn check_header(bytes: &[u8]) -> Result<(), TableFault>
 }
 
 pub(crate) fn entry_at(thread: u8) -> usize
-    ensures { result ≡ entry_IsPlace thread }
+    ensures { result ≡ entry_place thread }
 {
     6 + 4 * thread as usize
 }
