@@ -8,7 +8,7 @@ use Rattle.model.specs.Sanity.{WordsBelow, Sound, SoundStays, DrainsKeepLooks}
 use Rattle.model.specs.Steps.{then}
 use Rattle.model.specs.declared.state.Store.{Store}
 use Rattle.model.specs.declared.faults.MemoryFault.{MemoryFault}
-use Rattle.model.proofs.Writes.{get_d_set}
+use Rattle.model.proofs.Writes.{get_or-set}
 
 -- what is asked for is there, if the answer is no refusal
 there : {A : Type 0} (k n : ℕ) (f : MemoryFault) (next : Unit {0} → Answer A) (y : A)
@@ -29,7 +29,7 @@ with_pending_sound m t ss sound few below =
       words = sound.words;
       lists = length-set m.pending t ss ∙ sound.lists;
       stores = λ u.
-          subst (WordsBelow 8) (sym (get_d_set m.pending t u ss [] (λ _. omega (arith, sound.lists))))
+          subst (WordsBelow 8) (sym (get_or-set m.pending t u ss [] (λ _. omega (arith, sound.lists))))
           (cond_both (eqb t u) _ _ (WordsBelow 8) (λ _. below) (λ _. sound.stores u));
     }
 
@@ -86,7 +86,7 @@ drained_looks : (m : Memory) (t x : ℕ) → Sound m → t < 4 → (ss : List St
 drained_looks m t x sound few [] below = tt
 drained_looks m t x sound few (s ∷ ss) below =
     let left = get_or-set_same m.pending t ss [] (omega (arith, sound.lists)) in
-    let new = get_d_set m.words s.word x s.value 0 (λ _. omega (arith, sound.words)) in
+    let new = get_or-set m.words s.word x s.value 0 (λ _. omega (arith, sound.words)) in
     cc
 
 pub drains_keep_looks_lem : DrainsKeepLooks

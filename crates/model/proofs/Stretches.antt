@@ -10,7 +10,7 @@ use Rattle.model.specs.Steps.{then}
 use Rattle.model.specs.Table.{Program}
 use Rattle.model.specs.declared.state.Line.{Line}
 use Rattle.model.proofs.Reading.{passed}
-use Rattle.model.proofs.Writes.{get_d_set}
+use Rattle.model.proofs.Writes.{get_or-set}
 
 abbrev one_if : Bool → ℕ
 one_if b = cond b 1 0
@@ -64,7 +64,7 @@ round_more : (b : Bool) (rs : List ℕ) (u t : ℕ) → t < length rs
     → get_or (cond b rs (set rs u (get_or rs u 0 + 1))) t 0 ≡ get_or rs t 0 + cond b 0 (one_if (eqb u t))
 round_more true rs u t l = omega arith
 round_more false rs u t l =
-    let new = get_d_set rs u t (get_or rs u 0 + 1) 0 (λ (e : u ≡ t). omega arith) in
+    let new = get_or-set rs u t (get_or rs u 0 + 1) 0 (λ (e : u ≡ t). omega arith) in
     grind (arith, nat_tests)
 
 rounds_long : (b : Bool) (rs : List ℕ) (u n : ℕ) → length (cond b rs (set rs u n)) ≡ length rs

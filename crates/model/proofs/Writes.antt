@@ -3,9 +3,9 @@ use Rattle.std.proofs.Common.{◌≡◌, ℕ, ◌<◌, Bool, true, false, cond, 
 use Rattle.std.proofs.lemmas.List.{get_or-set_same, get_or-set_other}
 use Rattle.std.proofs.lemmas.Bool.{eqb-true, eqb-false}
 
-pub get_d_set : {A : Type 0} (xs : List A) (i j : ℕ) (x d : A) → (i ≡ j → i < length xs)
+pub get_or-set : {A : Type 0} (xs : List A) (i j : ℕ) (x d : A) → (i ≡ j → i < length xs)
     → get_or (set xs i x) j d ≡ cond (eqb i j) x (get_or xs j d)
-get_d_set {A} xs i j x d inside = split (eqb i j) refl
+get_or-set {A} xs i j x d inside = split (eqb i j) refl
   where
     split : (b : Bool) → eqb i j ≡ b → get_or (set xs i x) j d ≡ cond b x (get_or xs j d)
     split true e =

@@ -1,5 +1,5 @@
 -- The schedule that a run of a translated table stands for.
-use Rattle.std.specs.Prelude.{ℕ, ◌+◌, ◌-◌, ◌/◌, ◌%◌, max, Bool, true, false, cond, List, [], ◌∷◌, ◌++◌, map, length, get_or, drop, replicate, Some, None, Ok, Err, Option, Result, ◌==◌, nat_le, nat_lt, slice_index, slice_index_or, slice_set}
+use Rattle.std.specs.Prelude.{ℕ, ◌+◌, ◌-◌, ◌/◌, ◌%◌, max, Bool, true, false, cond, List, [], ◌∷◌, ◌++◌, map, length, drop, replicate, Some, None, Ok, Err, Option, Result, ◌==◌, nat_le, nat_lt, slice_index, slice_index_or, slice_set}
 use Rattle.model.specs.Action.{register, way_of}
 use Rattle.model.specs.Encoding.{encode}
 use Rattle.model.specs.Plain.{new_run, step, thread_of, unheld}
@@ -155,7 +155,7 @@ opens_round (Some Back) = false
 abbrev pub logged : Program → Program → Log → ℕ → Way → Thread → Thread → Log
 logged p q g t w before after =
     let l = layout_of p q.rounds in
-    let is = get_or p.code t [] in
+    let is = slice_index_or p.code t [] in
     elim (opens_round (fetch q t before.place)) [
       | true ↦ open_logged g t (register after (index l now))
       | false ↦ left_body l g t w after (inside q.rounds is before.place) (inside q.rounds is after.place)

@@ -1,5 +1,5 @@
 -- The table format: which byte strings are tables, which fault comes first, and what a table says.
-use Rattle.std.specs.Prelude.{ℕ, zero, suc, ◌+◌, ◌*◌, Bool, true, false, cond, ◌&&◌, List, [], ◌∷◌, length, get_or, Some, None, Ok, Err, Option, Result, ◌==◌, nat_le, nat_lt, slice_index, slice_index_or}
+use Rattle.std.specs.Prelude.{ℕ, zero, suc, ◌+◌, ◌*◌, Bool, true, false, cond, ◌&&◌, List, [], ◌∷◌, length, Some, None, Ok, Err, Option, Result, ◌==◌, nat_le, nat_lt, slice_index, slice_index_or}
 use Rattle.std.specs.List.{slice_get}
 use Rattle.model.specs.Steps.{then}
 use Rattle.model.specs.declared.code.Kind.{Kind}
@@ -199,7 +199,7 @@ codes_at bs thread (suc n) = code_at bs (position bs thread) (count bs thread) �
 -- the first fault of a table: length below 6, header, room for the entries, entries, whole length, instructions
 abbrev pub table_fault : List ℕ → Checked
 table_fault bs =
-    let threads = get_or bs 2 0 in
+    let threads = slice_index bs 2 in
     let long = length bs in
     then (demand (nat_le 6 long) (Length long))
     (λ _. then (header_fault bs)

@@ -1,5 +1,5 @@
 -- What a run of the plain machine runs and holds.
-use Rattle.std.specs.Prelude.{ℕ, Bool, true, false, cond, length, Some, None, Ok, Err, Option, Result, nat_lt, slice_index}
+use Rattle.std.specs.Prelude.{ℕ, Bool, true, false, cond, length, Some, None, Ok, Err, Option, Result, nat_lt, is_none, slice_index}
 use Rattle.model.specs.Action.{register}
 use Rattle.model.specs.Plain.{thread_of}
 use Rattle.model.specs.Table.{Program, fetch, placed}
@@ -44,10 +44,6 @@ link_at r t = given (has_thread r t) (placed (runs r).kind (thread_at r t).link)
 abbrev pub register_at : Run → ℕ → ℕ → Option ℕ
 register_at r t n =
     cond (has_thread r t) (given (nat_lt n (runs r).registers) (register (thread_at r t) n)) None
-
-abbrev pub is_none : {A : Type 0} → Option A → Bool
-is_none (Some x) = false
-is_none None = true
 
 abbrev pub has_ended : Run → ℕ → Option Bool
 has_ended r t = given (has_thread r t) (is_none (next_of r t))

@@ -53,9 +53,9 @@ module _ (bs : List ℕ) (threads thread : ℕ) where
       let past : length (codes_at bs 0 threads) ≤ thread = rw (length_codes bs 0 threads) h in
       ap (option_map length) (slice_get_past (codes_at bs 0 threads) thread past)
 
-  count_by : (b : Bool) → ltb thread threads ≡ b → cond b (Some (count bs thread)) None ≡ option_map length (slice_get (codes_at bs 0 threads) thread)
-  count_by true e = sym (count_of (ltb-true thread threads e))
-  count_by false e = sym (no_count (ltb-false thread threads e))
+  counted_by : (b : Bool) → ltb thread threads ≡ b → cond b (Some (count bs thread)) None ≡ option_map length (slice_get (codes_at bs 0 threads) thread)
+  counted_by true e = sym (count_of (ltb-true thread threads e))
+  counted_by false e = sym (no_count (ltb-false thread threads e))
 
   module _ (place : ℕ) where
     there : thread < threads → place < count bs thread → slice_get (get_or (codes_at bs 0 threads) thread []) place ≡ Some (instruction_at bs (position bs thread + 6 * place))
@@ -81,7 +81,7 @@ module _ (bs : List ℕ) (threads thread : ℕ) where
 
 module _ (bs : List ℕ) (thread : ℕ) where
   pub counted : found_count bs thread ≡ option_map length (slice_get (codes_at bs 0 (get_or bs 2 0)) thread)
-  counted = count_by bs (get_or bs 2 0) thread _ refl
+  counted = counted_by bs (get_or bs 2 0) thread _ refl
 
   pub fetched : (place : ℕ) → found_instruction bs thread place ≡ slice_get (get_or (codes_at bs 0 (get_or bs 2 0)) thread []) place
   fetched place = there_by bs (get_or bs 2 0) thread place _ _ refl refl
