@@ -14,41 +14,31 @@ fn mixed(sum: u64, byte: Option<u8>) -> u64 {
 
 /// A number that depends on every word and on the registers of threads 0 and 1.
 fn checksum(run: &Run) -> u64 {
-    let mut sum = 0;
-    for i in 0..82 {
-        sum = mixed(sum, run.word(i));
-        sum = mixed(sum, run.register(0, i));
-        sum = mixed(sum, run.register(1, i));
-    }
-    sum
+    (0..82).fold(0, |sum, i| {
+        let bytes = [run.word(i), run.register(0, i), run.register(1, i)];
+        bytes.into_iter().fold(sum, mixed)
+    })
 }
 
 /// Where steps of threads 0 and 1 in turn lead; none where one is refused.
 fn turns(table: Table, count: u64) -> Option<u64> {
     let mut run = Run::of(table);
+    // The number of a turn says whose it is.
     for turn in 0..count {
-        if run.step((turn % 2) as u8, 0).is_err() {
-            return None;
-        }
+        run.step((turn % 2) as u8, 0).ok()?;
     }
     Some(checksum(&run))
 }
 
-fn bench(rt: &HostRuntime) -> anyhow::Result<()> {
-    let count = env::args(rt)?
+fn main(rt: HostRuntime) -> anyhow::Result<()> {
+    let count = env::args(&rt)?
         .nth(1)
         .context("no count of steps")?
         .parse::<u64>()?;
     let mut bytes = Vec::new(rt.alloc());
     rt.stdin().read_to_end(&mut bytes)?;
-    let Ok(table) = Table::read(&bytes) else {
-        return Err(anyhow!("no table"));
-    };
+    let table = Table::read(&bytes).map_err(|fault| anyhow!("no table: {fault}"))?;
     let sum = turns(table, count).context("a step was refused")?;
     println!(rt; "{sum}")?;
     Ok(())
-}
-
-fn main(rt: HostRuntime) -> anyhow::Result<()> {
-    bench(&rt)
 }

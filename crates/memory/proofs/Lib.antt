@@ -1,3 +1,1 @@
-mod Agreeing
 mod Ring
-mod RingsMeaning

@@ -1,99 +1,92 @@
--- The rings as lists: a write outside a ring, one more at its end, a new head, and one of four lists.
-use Rattle.std.proofs.Common.{◌≡◌, ℕ, zero, suc, ◌+◌, ◌-◌, ◌*◌, ◌%◌, ◌<◌, cond, eqb, ◌≢◌, List, [], ◌∷◌, ◌++◌, map, length, get_or, set, sym, refl, ap, ◌∙◌, ⊎_elim, arith}
+-- The rings as lists: one more store at a ring's end, one less at its head, and what the other rings keep.
+use Rattle.std.proofs.Common.{◌≡◌, ℕ, zero, suc, ◌+◌, ◌-◌, ◌%◌, ◌<◌, ◌≢◌, List, [], ◌∷◌, ◌++◌, map, length, get_or, set, drop, cond, ◌==◌, sym, refl, ap, ◌∙◌, ⊎_elim, arith}
 use Rattle.std.specs.List.{range_with_len}
-use Rattle.std.proofs.lemmas.List.{get_or-set_same, get_or-set_other, length-set, ext_get_or}
-use Rattle.std.proofs.lemmas.List.FromFn.{get_or-map-range_with_len}
-use Rattle.std.proofs.lemmas.Bool.{cases_eq, cond-true, cond-false, eq-eqb, ne_eqb}
+use Rattle.std.proofs.lemmas.Bool.{cases_eq}
+use Rattle.std.proofs.lemmas.List.{same_lists, get_or-set_same, get_or-set_other, length-set}
+use Rattle.std.proofs.lemmas.List.FromFn.{get_or-map-range_with_len, length-map-range_with_len, map-range_with_len_more}
 use Rattle.model.specs.Memory.{latest}
 use Rattle.model.specs.declared.state.Store.{Store}
-use Rattle.memory.specs.Rings.{no_store, place, ring}
+use Rattle.memory.specs.declared.span.Span.{Span}
+use Rattle.memory.specs.Rings.{no_store, no_span, place, ring, span_of, ring_of, rings, queue}
 
-module _ (ps : List Store) (t : ℕ) where
-  pub length_ring : (n head : ℕ) → length (ring ps t head n) ≡ n
-  length_ring zero head = refl
-  length_ring (suc n) head = ap suc (length_ring n (head + 1))
+pub queue_is : (ps : List Store) (ss : List Span) (t : ℕ) → t < 4 → queue (rings ps ss) t ≡ ring_of ps ss t
+queue_is ps ss t lt = get_or-map-range_with_len (ring_of ps ss) 0 4 t t [] lt (omega arith)
 
-  pub same_head : (n head other : ℕ) → head % 64 ≡ other % 64 → ring ps t head n ≡ ring ps t other n
-  same_head zero head other e = refl
-  same_head (suc n) head other e =
-      let next : (head + 1) % 64 ≡ (other + 1) % 64 = omega arith in
-      let first : get_or ps (place t head) no_store ≡ get_or ps (place t other) no_store = ap (λ (k : ℕ). get_or ps (64 * t + k) no_store) e in
-      let rest : ring ps t (head + 1) n ≡ ring ps t (other + 1) n = same_head n (head + 1) (other + 1) next in
-      cc
+pub length_queue : (ps : List Store) (ss : List Span) (t : ℕ) → t < 4 → length (queue (rings ps ss) t) ≡ (span_of ss t).count
+length_queue ps ss t lt =
+    ap length (queue_is ps ss t lt)
+    ∙ length-map-range_with_len (λ k. get_or ps (place t ((span_of ss t).head + k)) no_store) 0 (span_of ss t).count
 
-  pub ring_more : (n head : ℕ) → ring ps t head (suc n) ≡ ring ps t head n ++ get_or ps (place t (head + n)) no_store ∷ []
-  ring_more zero head =
-      let e : head ≡ head + 0 = omega arith in
-      ap (λ (k : ℕ). get_or ps (place t k) no_store ∷ []) e
-  ring_more (suc n) head =
-      let e : (head + 1) + n ≡ head + suc n = omega arith in
-      ap (λ (ss : List Store). get_or ps (place t head) no_store ∷ ss)
-      (ring_more n (head + 1)
-      ∙ ap (λ (k : ℕ). ring ps t (head + 1) n ++ get_or ps (place t k) no_store ∷ []) e)
-
-  -- a write at no place of the ring leaves it
-  pub ring_apart : (at : ℕ) (s : Store) (n head : ℕ) → ((i : ℕ) → i < n → place t (head + i) ≢ at) → ring (set ps at s) t head n ≡ ring ps t head n
-  ring_apart at s zero head apart = refl
-  ring_apart at s (suc n) head apart =
-      let here : head ≡ head + 0 = omega arith in
-      let off : place t head ≢ at = λ e. apart 0 (omega arith) (ap (place t) (sym here) ∙ e) in
-      let later : (i : ℕ) → i < n → place t ((head + 1) + i) ≢ at =
-      λ i l e. (let k : head + (i + 1) ≡ (head + 1) + i = omega arith in apart (i + 1) (omega arith) (ap (place t) k ∙ e)) in
-      let first : get_or (set ps at s) (place t head) no_store ≡ get_or ps (place t head) no_store = get_or-set_other ps at (place t head) s no_store off in
-      let rest : ring (set ps at s) t (head + 1) n ≡ ring ps t (head + 1) n = ring_apart at s n (head + 1) later in
-      cc
+-- two functions that agree step by step give one list
+same_maps : {X : Type 0} (f g : ℕ → X) (a b n : ℕ) → ((k : ℕ) → k < n → f (a + k) ≡ g (b + k)) → map f (range_with_len a n) ≡ map g (range_with_len b n)
+same_maps f g a b n same =
+    same_lists (map f (range_with_len a n)) (map g (range_with_len b n)) (length-map-range_with_len f a n ∙ sym (length-map-range_with_len g b n)) (λ k d lt. (
+    let here : k < n = omega (arith, length-map-range_with_len f a n) in
+    get_or-map-range_with_len f a n k (a + k) d here refl ∙ same k here ∙ sym (get_or-map-range_with_len g b n k (b + k) d here refl)))
 
 -- a write at the place after the last
-pub ring_push : (ps : List Store) (t : ℕ) (s : Store) (n head : ℕ) → t < 4 → n < 64 → length ps ≡ 256 → ring (set ps (place t (head + n)) s) t head (n + 1) ≡ ring ps t head n ++ s ∷ []
-ring_push ps t s n head lt few long =
+ring_push : (ps : List Store) (t : ℕ) (s : Store) (head n : ℕ) → t < 4 → n < 64 → length ps ≡ 256 → ring (set ps (place t (head + n)) s) t head (n + 1) ≡ ring ps t head n ++ s ∷ []
+ring_push ps t s head n lt few long =
     let within : place t (head + n) < length ps = omega arith in
-    let apart : (i : ℕ) → i < n → place t (head + i) ≢ place t (head + n) = λ i l e. omega arith in
-    let one : n + 1 ≡ suc n = omega arith in
-    let there : get_or (set ps (place t (head + n)) s) (place t (head + n)) no_store ≡ s = get_or-set_same ps (place t (head + n)) s no_store within in
-    ap (ring (set ps (place t (head + n)) s) t head) one
-    ∙ ring_more (set ps (place t (head + n)) s) t n head
-    ∙ ap (λ (v : Store). ring (set ps (place t (head + n)) s) t head n ++ v ∷ []) there
-    ∙ ap (λ (ss : List Store). ss ++ s ∷ []) (ring_apart ps t (place t (head + n)) s n head apart)
+    map-range_with_len_more (λ k. get_or (set ps (place t (head + n)) s) (place t (head + k)) no_store) 0 n n (omega arith)
+    ∙ ap (λ (o : Store). ring (set ps (place t (head + n)) s) t head n ++ o ∷ []) (get_or-set_same ps (place t (head + n)) s no_store within)
+    ∙ ap (λ (ss : List Store). ss ++ s ∷ []) (same_maps _ (λ k. get_or ps (place t (head + k)) no_store) 0 0 n
+    (λ k l. get_or-set_other ps (place t (head + n)) (place t (head + (0 + k))) s no_store (λ e. omega arith)))
 
 -- a write at a place of another thread
-pub ring_other : (ps : List Store) (t k : ℕ) (s : Store) (steps n head : ℕ) → k ≢ t → ring (set ps (place t steps) s) k head n ≡ ring ps k head n
-ring_other ps t k s steps n head ne =
-    let apart : (i : ℕ) → i < n → place k (head + i) ≢ place t steps = λ i l e. ne (omega arith) in
-    ring_apart ps k (place t steps) s n head apart
+ring_other : (ps : List Store) (t k : ℕ) (s : Store) (steps head n : ℕ) → k ≢ t → ring (set ps (place t steps) s) k head n ≡ ring ps k head n
+ring_other ps t k s steps head n ne =
+    same_maps _ (λ i. get_or ps (place k (head + i)) no_store) 0 0 n
+    (λ i l. get_or-set_other ps (place t steps) (place k (head + (0 + i))) s no_store (λ e. ne (omega arith)))
 
--- the last store decides
-pub latest_push : (ss : List Store) (s : Store) (x v : ℕ) → latest (ss ++ s ∷ []) x v ≡ cond (eqb s.word x) s.value (latest ss x v)
+-- the first store of a ring, and the ring behind it
+pub ring_first : (ps : List Store) (t head n : ℕ) → 0 < n → ring ps t head n ≡ get_or ps (place t (head + 0)) no_store ∷ ring ps t ((head + 1) % 64) (n - 1)
+ring_first ps t head zero some = absurd (omega arith)
+ring_first ps t head (suc n) some =
+    let one : suc n - 1 ≡ n = omega arith in
+    let rest : map (λ k. get_or ps (place t (head + k)) no_store) (range_with_len 1 n) ≡ ring ps t ((head + 1) % 64) n =
+    same_maps (λ k. get_or ps (place t (head + k)) no_store) (λ k. get_or ps (place t ((head + 1) % 64 + k)) no_store) 1 0 n
+    (λ k l. ap (λ (i : ℕ). get_or ps i no_store) (omega arith)) in
+    cc
+
+-- one ring anew, and the others as they were
+one_anew : (ps qs : List Store) (ss us : List Span) (t : ℕ) → t < 4 → (y : List Store) → ring_of qs us t ≡ y → ((k : ℕ) → k ≢ t → ring_of qs us k ≡ ring_of ps ss k) → rings qs us ≡ set (rings ps ss) t y
+one_anew ps qs ss us t lt y here there =
+    same_lists (rings qs us) (set (rings ps ss) t y) (sym (length-set (rings ps ss) t y))
+    (λ k d l. ⊎_elim
+    (λ (e : k ≡ t). get_or-map-range_with_len (ring_of qs us) 0 4 k t d l (omega arith) ∙ here
+    ∙ sym (ap (λ (j : ℕ). get_or (set (rings ps ss) t y) j d) e ∙ get_or-set_same (rings ps ss) t y d lt))
+    (λ (ne : k ≢ t). get_or-map-range_with_len (ring_of qs us) 0 4 k k d l (omega arith) ∙ there k ne
+    ∙ sym (get_or-map-range_with_len (ring_of ps ss) 0 4 k k d l (omega arith))
+    ∙ sym (get_or-set_other (rings ps ss) t k y d ne))
+    (cases_eq k t))
+
+-- a store at the first free place of a thread, and the oldest one handed out
+module _ (ps : List Store) (ss : List Span) (t : ℕ) (lt : t < 4) (sp : Span) (four : length ss ≡ 4) where
+  pub stored : (s : Store) (at : ℕ) → at ≡ place t ((span_of ss t).head + (span_of ss t).count) → sp.head ≡ (span_of ss t).head → sp.count ≡ (span_of ss t).count + 1 → (span_of ss t).count < 64 → length ps ≡ 256 → rings (set ps at s) (set ss t sp) ≡ set (rings ps ss) t (queue (rings ps ss) t ++ s ∷ [])
+  stored s at free head count few long =
+      let same : span_of (set ss t sp) t ≡ sp = get_or-set_same ss t sp no_span (omega arith) in
+      let own : ring_of (set ps at s) (set ss t sp) t ≡ queue (rings ps ss) t ++ s ∷ [] =
+      rw (same, head, count, free, queue_is ps ss t lt) (ring_push ps t s (span_of ss t).head (span_of ss t).count lt few long) in
+      one_anew ps (set ps at s) ss (set ss t sp) t lt (queue (rings ps ss) t ++ s ∷ []) own (λ k ne.
+      rw (get_or-set_other ss t k sp no_span ne, free) (ring_other ps t k s ((span_of ss t).head + (span_of ss t).count) (span_of ss k).head (span_of ss k).count ne))
+
+  pub taken : sp.head ≡ ((span_of ss t).head + 1) % 64 → sp.count ≡ (span_of ss t).count - 1 → 0 < (span_of ss t).count → rings ps (set ss t sp) ≡ set (rings ps ss) t (drop 1 (queue (rings ps ss) t))
+  taken head count some =
+      let same : span_of (set ss t sp) t ≡ sp = get_or-set_same ss t sp no_span (omega arith) in
+      let own : ring_of ps (set ss t sp) t ≡ drop 1 (queue (rings ps ss) t) =
+      rw (same, head, count, queue_is ps ss t lt, ring_first ps t (span_of ss t).head (span_of ss t).count some) refl in
+      one_anew ps ps ss (set ss t sp) t lt (drop 1 (queue (rings ps ss) t)) own (λ k ne.
+      rw (get_or-set_other ss t k sp no_span ne) refl)
+
+-- the last store to a word decides
+latest_push : (ss : List Store) (s : Store) (x v : ℕ) → latest (ss ++ s ∷ []) x v ≡ cond (s.word == x) s.value (latest ss x v)
 latest_push [] s x v = refl
-latest_push (o ∷ ss) s x v = latest_push ss s x (cond (eqb o.word x) o.value v)
+latest_push (o ∷ ss) s x v = latest_push ss s x (cond (o.word == x) o.value v)
 
--- the newest store but so many is to the word, or else the ones before it decide
-module _ (ps : List Store) (t head n i x v : ℕ) (lt : i < n) (s : Store) (is : s ≡ get_or ps (place t (head + (n - (i + 1)))) no_store) where
-  latest_back : latest (ring ps t head (n - i)) x v ≡ cond (eqb s.word x) s.value (latest (ring ps t head (n - (i + 1))) x v)
-  latest_back =
-      let one : n - i ≡ suc (n - (i + 1)) = omega arith in
-      ap (λ (m : ℕ). latest (ring ps t head m) x v) one
-      ∙ ap (λ (ss : List Store). latest ss x v) (ring_more ps t (n - (i + 1)) head)
-      ∙ ap (λ (o : Store). latest (ring ps t head (n - (i + 1)) ++ o ∷ []) x v) (sym is)
-      ∙ latest_push (ring ps t head (n - (i + 1))) s x v
-
-  pub latest_hit : s.word ≡ x → s.value ≡ latest (ring ps t head (n - i)) x v
-  latest_hit e = sym (latest_back ∙ cond-true (eqb s.word x) _ _ (eq-eqb s.word x e))
-
-  pub latest_miss : (s.word ≡ x → ⊥) → latest (ring ps t head (n - (i + 1))) x v ≡ latest (ring ps t head (n - i)) x v
-  latest_miss ne = sym (latest_back ∙ cond-false (eqb s.word x) _ _ (ne_eqb s.word x ne))
-
--- of four lists that a function gives: the one at an index, and another there
-module _ {X : Type 0} (f g : ℕ → X) (t : ℕ) (lt : t < 4) where
-  pub at_four : (d : X) → get_or (map f (range_with_len 0 4)) t d ≡ f t
-  at_four d = get_or-map-range_with_len f 0 4 t t d lt (omega arith)
-
-  pub set_four : (y : X) → g t ≡ y → ((k : ℕ) → k ≢ t → g k ≡ f k) → map g (range_with_len 0 4) ≡ set (map f (range_with_len 0 4)) t y
-  set_four y here there =
-      ext_get_or y (map g (range_with_len 0 4)) (set (map f (range_with_len 0 4)) t y) (sym (length-set (map f (range_with_len 0 4)) t y))
-      (λ k l. ⊎_elim
-      (λ (e : k ≡ t). ap (λ (j : ℕ). get_or (map g (range_with_len 0 4)) j y) e ∙ get_or-map-range_with_len g 0 4 t t y lt (omega arith) ∙ here
-      ∙ sym (ap (λ (j : ℕ). get_or (set (map f (range_with_len 0 4)) t y) j y) e ∙ get_or-set_same (map f (range_with_len 0 4)) t y y lt))
-      (λ (ne : k ≢ t). get_or-map-range_with_len g 0 4 k k y l (omega arith) ∙ there k ne
-      ∙ sym (get_or-map-range_with_len f 0 4 k k y l (omega arith))
-      ∙ sym (get_or-set_other (map f (range_with_len 0 4)) t k y y ne))
-      (cases_eq k t))
+pub latest_more : (ps : List Store) (t head n x v : ℕ) → 0 < n → latest (ring ps t head n) x v ≡ cond ((get_or ps (place t (head + (n - 1))) no_store).word == x) (get_or ps (place t (head + (n - 1))) no_store).value (latest (ring ps t head (n - 1)) x v)
+latest_more ps t head n x v some =
+    let one : n ≡ (n - 1) + 1 = omega arith in
+    ap (λ (m : ℕ). latest (ring ps t head m) x v) one
+    ∙ ap (λ (ss : List Store). latest ss x v) (map-range_with_len_more (λ k. get_or ps (place t (head + k)) no_store) 0 (n - 1) (n - 1) (omega arith))
+    ∙ latest_push (ring ps t head (n - 1)) (get_or ps (place t (head + (n - 1))) no_store) x v

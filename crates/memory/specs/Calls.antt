@@ -1,38 +1,23 @@
 -- The calls of a memory as values: what each answers and leaves, and what many do one after another.
-use Rattle.std.specs.Prelude.{ℕ, Bool, true, cond, ◌&&◌, List, [], ◌∷◌, Some, None, Ok, Err, Option, ◌==◌}
-use Rattle.model.specs.declared.faults.MemoryFault.TheVariants.{NoThread, NoWord, Full, Empty}
+use Rattle.std.specs.Prelude.{List, [], ◌∷◌, Ok}
+use Rattle.std.specs.Option.{unwrap_or}
 use Rattle.model.specs.Memory.{Memory, Answer, cleared, look, word, idle, put, drain, exchange, said, left, swapped, swap_left}
+use Rattle.model.specs.Steps.{and_then}
 use Rattle.memory.specs.declared.calls.Call.{Call}
 use Rattle.memory.specs.declared.calls.Call.TheVariants as call
 use Rattle.memory.specs.declared.calls.Reply.{Reply}
-use Rattle.memory.specs.declared.calls.Reply.TheVariants.{Done, Number, Exchanged, Refused}
+use Rattle.memory.specs.declared.calls.Reply.TheVariants.{Done, Number, Exchanged}
 
-abbrev pub done : Answer (Unit {0}) → Reply
-done (Ok u) = Done
-done (Err f) = Refused f
-
-abbrev pub number : Answer ℕ → Reply
-number (Ok n) = Number n
-number (Err f) = Refused f
-
-abbrev pub exchanged : Answer Bool → Reply
-exchanged (Ok b) = Exchanged b
-exchanged (Err f) = Refused f
-
+abbrev pub reply : Memory → Call → Answer Reply
+reply m call.Clear = Ok Done
+reply m (call.Look t x) = and_then (look m t x) (λ n. Ok (Number n))
+reply m (call.Word x) = and_then (word m x) (λ n. Ok (Number n))
+reply m (call.Idle t) = and_then (idle m t) (λ n. Ok (Number n))
 -- a memory with no limit would say 0; every memory that runs has one
-abbrev pub depth_number : Option ℕ → ℕ
-depth_number None = 0
-depth_number (Some d) = d
-
-abbrev pub reply : Memory → Call → Reply
-reply m call.Clear = Done
-reply m (call.Look t x) = number (look m t x)
-reply m (call.Word x) = number (word m x)
-reply m (call.Idle t) = number (idle m t)
-reply m call.Depth = Number (depth_number m.depth)
-reply m (call.Put t x v) = done (said (put m t x v))
-reply m (call.Drain t) = done (said (drain m t))
-reply m (call.Exchange x e v) = exchanged (swapped (exchange m x e v))
+reply m call.Depth = Ok (Number (unwrap_or m.depth 0))
+reply m (call.Put t x v) = and_then (said (put m t x v)) (λ _. Ok Done)
+reply m (call.Drain t) = and_then (said (drain m t)) (λ _. Ok Done)
+reply m (call.Exchange x e v) = and_then (swapped (exchange m x e v)) (λ b. Ok (Exchanged b))
 
 abbrev pub next : Memory → Call → Memory
 next m call.Clear = cleared m
@@ -49,33 +34,6 @@ abbrev pub called : Memory → List Call → Memory
 called m [] = m
 called m (c ∷ cs) = called (next m c) cs
 
-abbrev pub replies : Memory → List Call → List Reply
+abbrev pub replies : Memory → List Call → List (Answer Reply)
 replies m [] = []
 replies m (c ∷ cs) = reply m c ∷ replies (next m c) cs
-
--- a reply as two numbers
-abbrev pub kind : Reply → ℕ
-kind Done = 0
-kind (Number n) = 1
-kind (Exchanged b) = 2
-kind (Refused (NoThread t)) = 3
-kind (Refused (NoWord x)) = 4
-kind (Refused (Full t)) = 5
-kind (Refused (Empty t)) = 6
-
-abbrev pub detail : Reply → ℕ
-detail Done = 0
-detail (Number n) = n
-detail (Exchanged b) = cond b 1 0
-detail (Refused (NoThread t)) = t
-detail (Refused (NoWord x)) = x
-detail (Refused (Full t)) = t
-detail (Refused (Empty t)) = t
-
-abbrev pub same : Reply → Reply → Bool
-same r q = kind r == kind q && detail r == detail q
-
--- whether the replies of two memories to the same calls are the same
-abbrev pub agreeing : Memory → Memory → List Call → Bool
-agreeing m n [] = true
-agreeing m n (c ∷ cs) = same (reply m c) (reply n c) && agreeing (next m c) (next n c) cs

@@ -1,12 +1,17 @@
--- Four rings of 64 places, one for each thread: what they hold, and what a store and a drain make of them.
-use Rattle.std.specs.Prelude.{◌≡◌, ℕ, zero, suc, ◌+◌, ◌-◌, ◌*◌, ◌%◌, List, [], ◌∷◌, map, length, Some, slice_index, slice_index_or, slice_set}
+-- Four rings of 64 places, one for each thread: what they hold.
+use Rattle.std.specs.Prelude.{ℕ, ◌+◌, ◌*◌, ◌%◌, List, [], ◌∷◌, map, Some, Ok, Err, slice_index_or}
 use Rattle.std.specs.List.{range_with_len}
-use Rattle.model.specs.Memory.{Memory}
+use Rattle.std.proofs.Common.{lit<, lit≤}
+use Rattle.model.specs.Memory.{Memory, Answer}
+use Rattle.model.specs.declared.faults.MemoryFault.TheVariants.{Empty}
 use Rattle.model.specs.declared.state.Store.{Store}
-use Rattle.memory.specs.declared.rings.Rings.{Rings}
+use Rattle.memory.specs.declared.span.Span.{Span}
 
 abbrev pub no_store : Store
 no_store = record { word = 0; value = 0 }
+
+abbrev pub no_span : Span
+no_span = record { head = 0; count = 0; turned = lit< tt; counted = lit≤ tt }
 
 -- the place of a thread that is so many steps from its first
 abbrev pub place : ℕ → ℕ → ℕ
@@ -14,44 +19,26 @@ place t steps = 64 * t + steps % 64
 
 -- so many stores from a head on
 abbrev pub ring : List Store → ℕ → ℕ → ℕ → List Store
-ring ps t head zero = []
-ring ps t head (suc n) = slice_index_or ps (place t head) no_store ∷ ring ps t (head + 1) n
+ring ps t head n = map (λ k. slice_index_or ps (place t (head + k)) no_store) (range_with_len 0 n)
 
-abbrev pub head_of : Rings → ℕ → ℕ
-head_of r t = slice_index r.heads t
+abbrev pub span_of : List Span → ℕ → Span
+span_of ss t = slice_index_or ss t no_span
 
-abbrev pub count_of : Rings → ℕ → ℕ
-count_of r t = slice_index r.counts t
+abbrev pub ring_of : List Store → List Span → ℕ → List Store
+ring_of ps ss t = ring ps t (span_of ss t).head (span_of ss t).count
 
-abbrev pub ring_of : Rings → ℕ → List Store
-ring_of r t = ring r.places t (head_of r t) (count_of r t)
+abbrev pub rings : List Store → List Span → List (List Store)
+rings ps ss = map (ring_of ps ss) (range_with_len 0 4)
 
-abbrev pub rings_value : Rings → Memory
-rings_value r = record { words = r.words; pending = map (ring_of r) (range_with_len 0 4); depth = Some 64 }
+-- a memory of these words and lists, of depth 64
+abbrev pub queue_value : List ℕ → List (List Store) → Memory
+queue_value ws ls = record { words = ws; pending = ls; depth = Some 64 }
 
--- every place, head and count is there
-pub record Whole (r : Rings) : Type 0 where
-  pub places : length r.places ≡ 256
-  pub heads : length r.heads ≡ 4
-  pub counts : length r.counts ≡ 4
+-- the pending stores of a thread, oldest first
+abbrev pub queue : List (List Store) → ℕ → List Store
+queue ls t = slice_index_or ls t []
 
--- a store at the first free place of a thread
-abbrev pub rings_put : Rings → ℕ → Store → Rings
-rings_put r t s = record {
-  words = r.words;
-  places = slice_set r.places (place t (head_of r t + count_of r t)) s;
-  heads = r.heads;
-  counts = slice_set r.counts t (count_of r t + 1);
-}
-
-abbrev pub oldest : Rings → ℕ → Store
-oldest r t = slice_index_or r.places (place t (head_of r t)) no_store
-
--- the oldest store is written, and its place is free
-abbrev pub rings_drain : Rings → ℕ → Rings
-rings_drain r t = record {
-  words = slice_set r.words (oldest r t).word (oldest r t).value;
-  places = r.places;
-  heads = slice_set r.heads t ((head_of r t + 1) % 64);
-  counts = slice_set r.counts t (count_of r t - 1);
-}
+-- the first of a thread's stores, if there is one
+abbrev pub oldest : ℕ → List Store → Answer Store
+oldest t [] = Err (Empty t)
+oldest t (s ∷ ss) = Ok s

@@ -10,3 +10,5 @@ pub mod narrow;
 pub mod plain;
 pub mod queue;
 mod rings;
+mod span;
+mod words;

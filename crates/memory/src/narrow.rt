@@ -5,6 +5,7 @@ ghost use Rattle.memory.specs.Values.{narrowed, some_limit};
 use crate::bounds::check_word;
 use crate::interface::SharedMemory;
 use model::faults::MemoryFault;
+use model::numbers::require;
 
 /// The memory below with a smaller depth, if the limit is below its own.
 #[derive(Drop)]
@@ -61,9 +62,8 @@ impl<M: SharedMemory> SharedMemory for Narrow<M> {
     fn put(&mut self, thread: u8, word: u8, byte: u8) -> Result<(), MemoryFault> {
         let waiting = self.idle(thread)?;
         check_word(word)?;
-        if self.memory.depth() != 0 && waiting >= self.limit {
-            return Err(MemoryFault::Full { thread });
-        }
+        let room = self.memory.depth() == 0 || waiting < self.limit;
+        require(room, MemoryFault::Full { thread })?;
         self.memory.put(thread, word, byte)
     }
 

@@ -2,14 +2,15 @@
 ghost use Rattle.std.specs.Prelude.{◌≡◌, Some};
 ghost use Rattle.memory.specs.Values.{fresh, plain_value};
 
-use crate::bounds::{check_thread, check_word};
+use crate::bounds::check_thread;
 use crate::interface::SharedMemory;
+use crate::words::Words;
 use model::faults::MemoryFault;
 
 /// Eight words.
 #[derive(Drop)]
 pub struct PlainMemory {
-    words: [u8; 8],
+    words: Words,
 }
 
 impl PlainMemory {
@@ -17,7 +18,9 @@ impl PlainMemory {
     pub fn new() -> PlainMemory
         ensures { plain_value result.words ≡ fresh (Some 0) }
     {
-        PlainMemory { words: [0; 8] }
+        PlainMemory {
+            words: Words::new(),
+        }
     }
 }
 
@@ -25,7 +28,7 @@ impl SharedMemory for PlainMemory {
     ghost value = { λ m. plain_value m.words };
 
     fn clear(&mut self) {
-        self.words = [0; 8];
+        self.words = Words::new();
     }
 
     fn look(&self, thread: u8, word: u8) -> Result<u8, MemoryFault> {
@@ -34,8 +37,7 @@ impl SharedMemory for PlainMemory {
     }
 
     fn word(&self, word: u8) -> Result<u8, MemoryFault> {
-        check_word(word)?;
-        Ok(self.words[word as usize])
+        self.words.get(word)
     }
 
     fn idle(&self, thread: u8) -> Result<u8, MemoryFault> {
@@ -49,9 +51,7 @@ impl SharedMemory for PlainMemory {
 
     fn put(&mut self, thread: u8, word: u8, byte: u8) -> Result<(), MemoryFault> {
         check_thread(thread)?;
-        check_word(word)?;
-        self.words[word as usize] = byte;
-        Ok(())
+        self.words.set(word, byte)
     }
 
     fn drain(&mut self, thread: u8) -> Result<(), MemoryFault> {
@@ -60,12 +60,6 @@ impl SharedMemory for PlainMemory {
     }
 
     fn exchange(&mut self, word: u8, expected: u8, new: u8) -> Result<bool, MemoryFault> {
-        check_word(word)?;
-        if self.words[word as usize] == expected {
-            self.words[word as usize] = new;
-            Ok(true)
-        } else {
-            Ok(false)
-        }
+        self.words.exchange(word, expected, new)
     }
 }

@@ -1,60 +1,54 @@
 //! A memory of depth 64: the stores of each thread wait in a ring of their own.
-ghost use Rattle.std.specs.Prelude.{◌≡◌, ℕ, ◌<◌, ◌≤◌, Some, slice_index_or};
-ghost use Rattle.memory.specs.Rings.{no_store, head_of, count_of, rings_value};
+ghost use Rattle.std.specs.Prelude.{◌≡◌, Some};
+ghost use Rattle.memory.specs.Rings.{queue_value};
 ghost use Rattle.memory.specs.Values.{fresh};
 
-use crate::bounds::{check_thread, check_word};
+use crate::bounds::check_thread;
 use crate::interface::SharedMemory;
 use crate::rings::Rings;
+use crate::words::Words;
 use model::faults::MemoryFault;
 use model::state::Store;
 
 /// Eight words and four rings of 64 places.
 #[derive(Drop)]
 pub struct QueueMemory {
+    words: Words,
     rings: Rings,
-    ghost turned: { (t : ℕ) → head_of rings t < 64 },
-    ghost counted: { (t : ℕ) → count_of rings t ≤ 64 },
-    ghost worded: { (k : ℕ) → (slice_index_or rings.places k no_store).word < 8 },
 }
 
 impl QueueMemory {
     /// Every word 0, nothing pending.
     pub fn new() -> QueueMemory
-        ensures { rings_value result.rings ≡ fresh (Some 64) }
+        ensures { queue_value result.words result.rings ≡ fresh (Some 64) }
     {
-        let rings = Rings {
-            words: [0; 8],
-            places: [Store { word: 0, value: 0 }; 256],
-            heads: [0; 4],
-            counts: [0; 4],
-        };
-        QueueMemory { rings }
+        QueueMemory {
+            words: Words::new(),
+            rings: Rings::new(),
+        }
     }
 }
 
 impl SharedMemory for QueueMemory {
-    ghost value = { λ m. rings_value m.rings };
+    ghost value = { λ m. queue_value m.words m.rings };
 
     fn clear(&mut self) {
-        self.rings.words = [0; 8];
-        self.rings.counts = [0; 4];
+        self.words = Words::new();
+        self.rings.clear();
     }
 
     fn look(&self, thread: u8, word: u8) -> Result<u8, MemoryFault> {
         check_thread(thread)?;
-        check_word(word)?;
-        Ok(self.rings.seen(thread, word))
+        let held = self.word(word)?;
+        self.rings.latest(thread, word, held)
     }
 
     fn word(&self, word: u8) -> Result<u8, MemoryFault> {
-        check_word(word)?;
-        Ok(self.rings.words[word as usize])
+        self.words.get(word)
     }
 
     fn idle(&self, thread: u8) -> Result<u8, MemoryFault> {
-        check_thread(thread)?;
-        Ok(self.rings.count(thread))
+        self.rings.count(thread)
     }
 
     fn depth(&self) -> u8 {
@@ -62,31 +56,15 @@ impl SharedMemory for QueueMemory {
     }
 
     fn put(&mut self, thread: u8, word: u8, byte: u8) -> Result<(), MemoryFault> {
-        check_thread(thread)?;
-        check_word(word)?;
-        if self.rings.is_full(thread) {
-            return Err(MemoryFault::Full { thread });
-        }
-        self.rings.append(thread, Store { word, value: byte });
-        Ok(())
+        self.rings.append(thread, Store { word, value: byte })
     }
 
     fn drain(&mut self, thread: u8) -> Result<(), MemoryFault> {
-        check_thread(thread)?;
-        if self.rings.count(thread) == 0 {
-            return Err(MemoryFault::Empty { thread });
-        }
-        self.rings.write_oldest(thread);
-        Ok(())
+        let Store { word, value } = self.rings.take_oldest(thread)?;
+        self.words.set(word, value)
     }
 
     fn exchange(&mut self, word: u8, expected: u8, new: u8) -> Result<bool, MemoryFault> {
-        check_word(word)?;
-        if self.rings.words[word as usize] == expected {
-            self.rings.words[word as usize] = new;
-            Ok(true)
-        } else {
-            Ok(false)
-        }
+        self.words.exchange(word, expected, new)
     }
 }

@@ -1,88 +1,118 @@
 //! The pending stores of four threads, in four rings of 64 places.
-ghost use Rattle.std.specs.Prelude.{◌≡◌, ◌+◌, ◌-◌, ◌<◌, ◌≤◌, nat_le, slice_index, slice_index_or};
-ghost use Rattle.model.specs.Memory.{latest};
-ghost use Rattle.memory.specs.Rings.{place as place_of, no_store, head_of, count_of, ring_of, oldest, rings_put, rings_drain, Whole};
+ghost use Rattle.std.specs.Prelude.{◌≡◌, ◌+◌, ◌<◌, List, [], ◌∷◌, ◌++◌, IfOk, IfErr, drop, length, nat_lt, replicate, slice_set};
+ghost use Rattle.std.specs.List.{All};
+ghost use Rattle.model.specs.Memory.{latest as latest_store, thread_there, word_there};
+ghost use Rattle.model.specs.Steps.{and_then, demand};
+ghost use Rattle.model.specs.declared.state.Store.{Store};
+ghost use Rattle.memory.specs.Rings.{place as place_of, rings, queue, oldest, span_of as span_at};
 
+use crate::bounds::{check_thread, check_word};
+use crate::span::Span;
+use model::faults::MemoryFault;
+use model::numbers::require;
 use model::state::Store;
+use std::marker::Model;
 
-/// Eight words, and for each thread 64 places, the first one in use, and how many are in use.
+/// For each thread 64 places, in one array of 256 stores as the project asks for it, and which of them are in use.
 #[derive(Drop)]
 pub(crate) struct Rings {
-    pub(crate) words: [u8; 8],
-    pub(crate) places: [Store; 256],
-    pub(crate) heads: [u8; 4],
-    pub(crate) counts: [u8; 4],
+    places: [Store; 256],
+    spans: [Span; 4],
+}
+
+impl Model for Rings {
+    ghost Value = { List (List Store) };
+
+    ghost view = { λ r. rings r.places r.spans };
+
+    ghost invariant = { λ r. All (λ s. s.word < 8) r.places };
 }
 
 /// The place of a thread that is so many steps from its first.
-fn place(thread: u8, steps: u8) -> usize
-    ensures { result ≡ place_of thread steps }
+fn place(thread: u8, head: u8, steps: u8) -> usize
+    ensures { result ≡ place_of thread (head + steps) }
 {
-    64 * thread as usize + (steps % 64) as usize
+    64 * thread as usize + (head as usize + steps as usize) % 64
+}
+
+/// The places that a thread uses.
+fn span_of(spans: &[Span; 4], thread: u8) -> Result<Span, MemoryFault>
+    ensures { result ≡ and_then (thread_there thread) (λ _. Ok (span_at spans.now thread)) }
+{
+    check_thread(thread)?;
+    Ok(spans[thread as usize])
 }
 
 impl Rings {
-    /// How many stores of a thread are pending.
-    pub(crate) fn count(&self, thread: u8) -> u8
-        requires { thread < 4 }
-        ensures { result ≡ count_of self.now thread }
+    /// Nothing pending.
+    pub(crate) fn new() -> Rings
+        ensures { result ≡ replicate 4 [] }
     {
-        self.counts[thread as usize]
+        Rings {
+            places: [Store { word: 0, value: 0 }; 256],
+            spans: [Span { head: 0, count: 0 }; 4],
+        }
     }
 
-    /// Whether every place of a thread is in use.
-    pub(crate) fn is_full(&self, thread: u8) -> bool
-        requires { thread < 4 }
-        ensures { result ≡ nat_le 64 (count_of self.now thread) }
+    /// Every pending store is let go; no place is touched.
+    pub(crate) fn clear(&mut self)
+        ensures { self.new ≡ replicate 4 [] }
     {
-        self.count(thread) >= 64
+        self.spans = [Span { head: 0, count: 0 }; 4];
+    }
+
+    /// How many stores of a thread are pending.
+    pub(crate) fn count(&self, thread: u8) -> Result<u8, MemoryFault>
+        ensures { result ≡ and_then (thread_there thread) (λ _. Ok (length (queue self.now thread))) }
+    {
+        Ok(span_of(&self.spans, thread)?.count)
     }
 
     /// A store takes the first free place of its thread.
-    pub(crate) fn append(&mut self, thread: u8, store: Store)
-        requires { (thread < 4) × ((head_of self.old thread < 64) × (count_of self.old thread < 64)) }
-        ensures after { self.new ≡ rings_put self.old thread store }
-        ensures whole { Whole self.old }
+    pub(crate) fn append(&mut self, thread: u8, store: Store) -> Result<(), MemoryFault>
+        ensures answer { result ≡ and_then (thread_there thread) (λ _. and_then (word_there store.word) (λ _. demand (nat_lt (length (queue self.old thread)) 64) (MemoryFault.Full thread))) }
+        ensures stored { IfOk result (λ _. self.new ≡ slice_set self.old thread (queue self.old thread ++ store ∷ [])) }
+        ensures refused { IfErr result (λ _. self.new ≡ self.old) }
     {
-        let at = thread as usize;
-        let free = place(thread, self.heads[at] + self.counts[at]);
-        self.places[free] = store;
-        self.counts[at] += 1;
+        let Span { head, count } = span_of(&self.spans, thread)?;
+        check_word(store.word)?;
+        require(count < 64, MemoryFault::Full { thread })?;
+        self.places[place(thread, head, count)] = store;
+        self.spans[thread as usize] = Span {
+            head,
+            count: count + 1,
+        };
+        Ok(())
     }
 
-    /// The oldest store of a thread is written, and its place is free.
-    pub(crate) fn write_oldest(&mut self, thread: u8)
-        requires { (thread < 4) × ((head_of self.old thread < 64) × ((0 < count_of self.old thread) × ((oldest self.old thread).word < 8))) }
-        ensures after { self.new ≡ rings_drain self.old thread }
-        ensures whole { Whole self.old }
+    /// The oldest store of a thread is handed out, and its place is free.
+    pub(crate) fn take_oldest(&mut self, thread: u8) -> Result<Store, MemoryFault>
+        ensures answer { result ≡ and_then (thread_there thread) (λ _. oldest thread (queue self.old thread)) }
+        ensures taken { IfOk result (λ _. self.new ≡ slice_set self.old thread (drop 1 (queue self.old thread))) }
+        ensures word { IfOk result (λ s. s.word < 8) }
+        ensures refused { IfErr result (λ _. self.new ≡ self.old) }
     {
-        let at = thread as usize;
-        let Store { word, value } = self.places[place(thread, self.heads[at])];
-        self.words[word as usize] = value;
-        self.heads[at] = (self.heads[at] + 1) % 64;
-        self.counts[at] -= 1;
+        let Span { head, count } = span_of(&self.spans, thread)?;
+        require(count > 0, MemoryFault::Empty { thread })?;
+        self.spans[thread as usize] = Span {
+            head: (head + 1) % 64,
+            count: count - 1,
+        };
+        Ok(self.places[place(thread, head, 0)])
     }
 
-    /// The store of a thread that so many newer ones follow.
-    fn newest(&self, thread: u8, newer: u8) -> Store
-        requires { (thread < 4) × ((head_of self.now thread < 64) × ((count_of self.now thread ≤ 64) × (newer < count_of self.now thread))) }
-        ensures { result ≡ slice_index_or self.now.places (place_of thread (head_of self.now thread + (count_of self.now thread - (newer + 1)))) no_store }
+    /// The value of a thread's newest store to a word, or else what the word holds.
+    pub(crate) fn latest(&self, thread: u8, word: u8, held: u8) -> Result<u8, MemoryFault>
+        ensures { result ≡ and_then (thread_there thread) (λ _. Ok (latest_store (queue self.now thread) word held)) }
     {
-        let at = thread as usize;
-        self.places[place(thread, self.heads[at] + (self.counts[at] - (newer + 1)))]
-    }
-
-    /// The value of a thread's newest store to a word, or else the word itself.
-    pub(crate) fn seen(&self, thread: u8, word: u8) -> u8
-        requires { (thread < 4) × ((head_of self.now thread < 64) × ((count_of self.now thread ≤ 64) × (word < 8))) }
-        ensures { result ≡ latest (ring_of self.now thread) word (slice_index self.now.words word) }
-    {
-        for newer in 0..self.count(thread) {
-            let store = self.newest(thread, newer);
+        let Span { head, count } = span_of(&self.spans, thread)?;
+        // A loop: of the chain `(0..count).rev().map(..).find(..)` the contract was not proved.
+        for steps in (0..count).rev() {
+            let store = self.places[place(thread, head, steps)];
             if store.word == word {
-                return store.value;
+                return Ok(store.value);
             }
         }
-        self.words[word as usize]
+        Ok(held)
     }
 }

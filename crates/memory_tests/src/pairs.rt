@@ -21,8 +21,5 @@ fn equal_memories_agree(rt: HostRuntime) {
 #[test]
 fn a_queue_is_told_from_plain_memory(rt: HostRuntime) {
     let calls = [put(0, 1, 5), Call::Idle { thread: 0 }];
-    assert_eq!(rt;
-        compare(&mut PlainMemory::new(), &mut QueueMemory::new(), &calls),
-        false
-    );
+    assert!(rt; !compare(&mut PlainMemory::new(), &mut QueueMemory::new(), &calls));
 }

@@ -6,7 +6,7 @@ use Rattle.model.specs.Table.{table_fault, header_fault, entries_end, codes_faul
 use Rattle.model.specs.Encoding.{Bytes, six, encode, encode_instruction, encode_code, encode_codes, entries, kind_byte, InRange, EachInRange, CodeInRange, CodesInRange, WellFormed, ReadIsEncodedBack}
 use Rattle.model.specs.declared.code.Kind.{Kind}
 use Rattle.model.specs.declared.code.Instruction.{Instruction}
-use Rattle.model.proofs.Reading.{FieldsFit, limits_for, ops_cases, passed, passed_demand, demanded, passed_fields, drop_two, drop_six}
+use Rattle.model.proofs.Reading.{FieldsFit, entries_onward, limits_for, ops_cases, passed, passed_demand, demanded, passed_fields, drop_two, drop_six}
 
 -- a statement on each of so many numbers from one on, and on any number among them
 infixr 20 ◌▸◌
@@ -90,7 +90,6 @@ record CodesBack (bs : List ℕ) (thread at end n : ℕ) : Type 0 where
   code_bytes : encode_codes (codes_at bs thread n) ++ drop end bs ≡ drop at bs
   in_range : CodesInRange (kind_of (get_or bs 1 0)) (get_or bs 4 0) (get_or bs 3 0) (codes_at bs thread n)
   long : length (codes_at bs thread n) ≡ n
-  onward : at ≤ end
 
 module _ (bs : List ℕ) (bytes : Bytes bs) where
   codes_back : (thread at end n : ℕ) → entries_end (kind_of (get_or bs 1 0)) bs thread at n ≡ Ok end
@@ -103,7 +102,6 @@ module _ (bs : List ℕ) (bytes : Bytes bs) where
         code_bytes = ap (λ x. drop x bs) (sym same);
         in_range = tt;
         long = refl;
-        onward = omega arith;
       }
   codes_back thread at end (suc n) h f room l =
       let k = kind_of (get_or bs 1 0) in
@@ -116,7 +114,7 @@ module _ (bs : List ℕ) (bytes : Bytes bs) where
       let tests = and_parts _ _ a.0 in
       let start : position bs thread ≡ at = eqb-true _ _ tests.0 in
       let few = within_parts 1 c (most_instructions k) tests.1 in
-      let first = code_back k g m c bs bytes (position bs thread) c b.1 (omega (arith, later.onward)) in
+      let first = code_back k g m c bs bytes (position bs thread) c b.1 (omega (arith, entries_onward k bs (thread + 1) (at + 6 * c) n end a.1)) in
       let low = drop_two bs (entry_at thread) (entry_at thread + 2) bytes refl (omega arith) in
       let high = drop_two bs (entry_at thread + 2) (entry_at (thread + 1)) bytes (omega arith) (omega arith) in
       let rest : entry_at (thread + 1) + 4 * n ≡ entry_at thread + 4 * suc n = omega arith in
@@ -126,7 +124,6 @@ module _ (bs : List ℕ) (bytes : Bytes bs) where
         code_bytes = joined_up _ _ _ _ _ later.code_bytes here;
         in_range = (code_in_range k g m c _ first.2 few.0 few.1 first.1, later.in_range);
         long = ap suc later.long;
-        onward = omega (arith, later.onward);
       }
 
 kind_byte_back : (b : ℕ) → b ≤ 1 → kind_byte (kind_of b) ≡ b
@@ -135,16 +132,16 @@ kind_byte_back (suc zero) h = refl
 kind_byte_back (suc (suc b)) h = absurd (omega arith)
 
 -- what a header that passes says
-record HeaderBack (bs : List ℕ) (k : Kind) : Type 0 where
+pub record HeaderBack (bs : List ℕ) (k : Kind) : Type 0 where
   edition : get_or bs 0 0 ≡ 1
   kind : get_or bs 1 0 ≤ 1
-  threads : (1 ≤ get_or bs 2 0) × (get_or bs 2 0 ≤ 4)
+  pub threads : (1 ≤ get_or bs 2 0) × (get_or bs 2 0 ≤ 4)
   words : (1 ≤ get_or bs 3 0) × (get_or bs 3 0 ≤ 8)
   registers : (1 ≤ get_or bs 4 0) × (get_or bs 4 0 ≤ most_registers k)
   rounds : (least_rounds k ≤ get_or bs 5 0) × (get_or bs 5 0 ≤ most_rounds k)
 
 module _ (bs : List ℕ) where
-  header_back : header_fault bs ≡ Ok tt → HeaderBack bs (kind_of (get_or bs 1 0))
+  pub header_back : header_fault bs ≡ Ok tt → HeaderBack bs (kind_of (get_or bs 1 0))
   header_back h =
       let a = passed_demand (eqb (get_or bs 0 0) 1) _ _ tt h in
       let b = passed_demand (leb (get_or bs 1 0) 1) _ _ tt a.1 in

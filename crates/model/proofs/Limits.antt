@@ -4,7 +4,7 @@ use Rattle.std.proofs.lemmas.Bool.{ne_eqb}
 use Rattle.model.specs.Action.{Action, stuck, quiet, reads, writes, fences, swaps, opens, shuts, about, can_go}
 use Rattle.model.specs.Memory.{Memory, Answer, thread_there, word_there, pending_of, word_of, look, idle, stored, appended, written, put, drained, drain, exchange}
 use Rattle.model.specs.Sanity.{boundless, LimitsOnlyRefuse}
-use Rattle.model.specs.Steps.{then}
+use Rattle.model.specs.Steps.{and_then}
 use Rattle.model.specs.StoreBuffer.{Machine, lifted, Moved, if_idle, performed, stepped_by, moved, line, lines}
 use Rattle.model.specs.Table.{Program}
 use Rattle.model.specs.declared.code.Instruction.{Instruction}
@@ -34,7 +34,7 @@ module _ {A E : Type 0} {f : A → A} {P : A → Type 0} where
   follows_if false h k = k
 
   follows_then : {B : Type 0} {g : B → B} {Q : B → Type 0} {r q : Result A E} (next next' : A → Result B E)
-      → Follows f P r q → ((x : A) → P x → Follows g Q (next x) (next' (f x))) → Follows g Q (then r next) (then q next')
+      → Follows f P r q → ((x : A) → P x → Follows g Q (next x) (next' (f x))) → Follows g Q (and_then r next) (and_then q next')
   follows_then next next' (answers {x} h) k = k x h
   follows_then next next' refuses k = refuses
 

@@ -1,23 +1,20 @@
 -- Sound memories stay sound, and a drain keeps what its thread looks up.
-use Rattle.std.proofs.Common.{◌≡◌, ℕ, zero, suc, ◌<◌, Bool, true, false, eqb, ltb, List, [], ◌∷◌, ◌++◌, length, get_or, replicate, IfOk, Some, None, Ok, Option, sym, refl, ap, ◌∙◌, subst, arith}
+use Rattle.std.proofs.Common.{◌≡◌, ℕ, zero, suc, ◌<◌, Bool, eqb, ltb, List, [], ◌∷◌, ◌++◌, length, get_or, replicate, IfOk, Some, None, Ok, Option, sym, refl, ap, ◌∙◌, subst, arith}
 use Rattle.std.proofs.lemmas.List.{get_or-set_same, length-set}
 use Rattle.std.proofs.lemmas.Result.{IfOk-at_ok}
 use Rattle.std.proofs.lemmas.Bool.{ltb-true, cond_both}
-use Rattle.model.specs.Memory.{Memory, Answer, demanded, thread_there, word_there, pending_of, word_of, latest, with_pending, written, appended, stored, drained}
+use Rattle.model.specs.Memory.{Memory, Answer, thread_there, word_there, pending_of, word_of, latest, with_pending, written, appended, stored, drained}
 use Rattle.model.specs.Sanity.{WordsBelow, Sound, SoundStays, DrainsKeepLooks}
-use Rattle.model.specs.Steps.{then}
+use Rattle.model.specs.Steps.{and_then, demand}
 use Rattle.model.specs.declared.state.Store.{Store}
 use Rattle.model.specs.declared.faults.MemoryFault.{MemoryFault}
+use Rattle.model.proofs.Reading.{passed_demand}
 use Rattle.model.proofs.Writes.{get_or-set}
 
 -- what is asked for is there, if the answer is no refusal
 there : {A : Type 0} (k n : ℕ) (f : MemoryFault) (next : Unit {0} → Answer A) (y : A)
-    → then (demanded (ltb k n) f) next ≡ Ok y → (k < n) × (next tt ≡ Ok y)
-there {A} k n f next y h = split (ltb k n) refl h
-  where
-    split : (b : Bool) → ltb k n ≡ b → then (demanded b f) next ≡ Ok y → (k < n) × (next tt ≡ Ok y)
-    split true e h = (ltb-true k n e, h)
-    split false e h = let z : ◌≡◌ {A = ℕ} 0 1 = cc in absurd (omega arith)
+    → and_then (demand (ltb k n) f) next ≡ Ok y → (k < n) × (next tt ≡ Ok y)
+there k n f next y h = let a = passed_demand (ltb k n) f next y h in (ltb-true k n a.0, a.1)
 
 words_below_push : (n : ℕ) (ss : List Store) (s : Store) → WordsBelow n ss → s.word < n → WordsBelow n (ss ++ s ∷ [])
 words_below_push n [] s h l = (l, tt)
@@ -92,6 +89,6 @@ drained_looks m t x sound few (s ∷ ss) below =
 pub drains_keep_looks_lem : DrainsKeepLooks
 drains_keep_looks_lem m n t x sound h =
     let a = there t 4 _ _ n h in
-    ap (λ v. then (thread_there t) (λ _. then (word_there x) (λ _. Ok v)))
+    ap (λ v. and_then (thread_there t) (λ _. and_then (word_there x) (λ _. Ok v)))
     (IfOk-at_ok (Looks t x (latest (pending_of m t) x (word_of m x))) a.1
     (drained_looks m t x sound a.0 (pending_of m t) (sound.stores t)))

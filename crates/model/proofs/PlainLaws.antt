@@ -3,8 +3,10 @@ use Rattle.std.proofs.Common.{◌≡◌, ℕ, Bool, true, false, ltb, length, ge
 use Rattle.std.proofs.lemmas.List.{get_or-set_other}
 use Rattle.std.proofs.lemmas.Result.{IfOk-at_ok}
 use Rattle.std.proofs.lemmas.Bool.{cond_both}
+use Rattle.std.specs.Bool.{then_some}
+use Rattle.std.specs.Option.{ok_or}
 use Rattle.model.specs.Action.{Action, stuck, quiet, reads, writes, fences, swaps, opens, shuts, can_go, way_of}
-use Rattle.model.specs.Plain.{step_on, step_way, or_refused, performed, granted_if, may_step, thread_of, no_thread, run_after}
+use Rattle.model.specs.Plain.{step_on, step_way, performed, may_step, thread_of, no_thread, run_after}
 use Rattle.model.specs.Sanity.{OtherThreadsStay, RefusedStepsLeaveTheRun}
 use Rattle.model.specs.Table.{Program}
 use Rattle.model.specs.declared.code.Instruction.{Instruction}
@@ -19,11 +21,11 @@ SameThread u s s' = thread_of s'.threads u ≡ thread_of s.threads u
 abbrev Granted : (State → Type 0) → Option State → Type 0
 Granted P o = IfSome o P
 
-granted_then : (P : State → Type 0) (b : Bool) (s : State) → P s → Granted P (granted_if b s)
+granted_then : (P : State → Type 0) (b : Bool) (s : State) → P s → Granted P (then_some b s)
 granted_then P true s h = h
 granted_then P false s h = tt
 
-granted_made : (P : State → Type 0) (o : Option State) (f : MachineFault) → Granted P o → IfOk (or_refused o f) P
+granted_made : (P : State → Type 0) (o : Option State) (f : MachineFault) → Granted P o → IfOk (ok_or o f) P
 granted_made P None f h = tt
 granted_made P (Some s) f h = h
 

@@ -1,41 +1,49 @@
 -- What stands from a position of a byte string on, and how checks follow one another.
-use Rattle.std.proofs.Common.{◌≡◌, ℕ, zero, suc, ◌+◌, ◌/◌, ◌%◌, ◌<◌, ◌≤◌, Bool, true, false, ltb, ◌⊎◌, List, [], ◌∷◌, ◌++◌, length, get_or, drop, Ok, Err, Result, refl, ◌∙◌, inl, inr, arith}
+use Rattle.std.proofs.Common.{◌≡◌, ℕ, zero, suc, ◌+◌, ◌/◌, ◌%◌, ◌*◌, ◌<◌, ◌≤◌, Bool, true, false, ◌&&◌, eqb, ltb, ◌⊎◌, List, [], ◌∷◌, ◌++◌, length, get_or, drop, Ok, Err, Result, refl, ◌∙◌, inl, inr, arith}
 use Rattle.std.proofs.lemmas.List.{get_or-drop, drop-drop, drop_more}
 use Rattle.std.proofs.lemmas.Bool.{lt-ltb, ltb-true}
-use Rattle.model.specs.Steps.{then}
-use Rattle.model.specs.Table.{demand, two, ops, shape, field_limit, target_limit, operands_fault, fields_fault}
+use Rattle.model.specs.Steps.{and_then, demand}
+use Rattle.model.specs.Table.{two, ops, shape, field_limit, target_limit, operands_fault, fields_fault, entries_end, position, count, within, most_instructions}
 use Rattle.model.specs.Encoding.{Bytes, six}
 use Rattle.model.specs.declared.code.Kind.{Kind}
 use Rattle.model.specs.declared.code.Kind.TheVariants.{Source, Translated}
 use Rattle.model.specs.declared.code.Limits.{Limits}
 use Rattle.model.specs.declared.code.Shape.{Shape}
-use Rattle.model.specs.declared.faults.TableFault.{TableFault}
 
 -- a chain of checks that passes has passed each of them
 pub passed : {A B E : Type 0} (r : Result A E) (next : A → Result B E) (y : B)
-    → then r next ≡ Ok y → (x : A) × (r ≡ Ok x) × (next x ≡ Ok y)
+    → and_then r next ≡ Ok y → (x : A) × (r ≡ Ok x) × (next x ≡ Ok y)
 passed (Ok x) next y h = (x, refl, h)
 passed (Err e) next y h = let z : ◌≡◌ {A = ℕ} 0 1 = cc in absurd (omega arith)
 
-pub demanded : (b : Bool) (f : TableFault) → demand b f ≡ Ok tt → b ≡ true
+pub demanded : {E : Type 0} (b : Bool) (f : E) → demand b f ≡ Ok tt → b ≡ true
 demanded true f h = refl
 demanded false f h = let z : ◌≡◌ {A = ℕ} 0 1 = cc in absurd (omega arith)
 
-pub passed_demand : {B : Type 0} (b : Bool) (f : TableFault) (next : Unit {0} → Result B TableFault) (y : B)
-    → then (demand b f) next ≡ Ok y → (b ≡ true) × (next tt ≡ Ok y)
+pub passed_demand : {B E : Type 0} (b : Bool) (f : E) (next : Unit {0} → Result B E) (y : B)
+    → and_then (demand b f) next ≡ Ok y → (b ≡ true) × (next tt ≡ Ok y)
 passed_demand b f next y h = let a = passed (demand b f) next y h in (demanded b f a.1, a.2)
 
 -- and what passes each of them passes the chain
 pub pass : {A B E : Type 0} (r : Result A E) (next : A → Result B E) (x : A) (y : Result B E)
-    → r ≡ Ok x → next x ≡ y → then r next ≡ y
+    → r ≡ Ok x → next x ≡ y → and_then r next ≡ y
 pass r next x y e h = rw e h
 
-pub demand_met : (b : Bool) (f : TableFault) → b ≡ true → demand b f ≡ Ok tt
+pub demand_met : {E : Type 0} (b : Bool) (f : E) → b ≡ true → demand b f ≡ Ok tt
 demand_met b f e = rw e
 
-pub pass_demand : {B : Type 0} (b : Bool) (f : TableFault) (next : Unit {0} → Result B TableFault)
-    (y : Result B TableFault) → b ≡ true → next tt ≡ y → then (demand b f) next ≡ y
+pub pass_demand : {B E : Type 0} (b : Bool) (f : E) (next : Unit {0} → Result B E)
+    (y : Result B E) → b ≡ true → next tt ≡ y → and_then (demand b f) next ≡ y
 pass_demand b f next y e h = pass (demand b f) next tt y (demand_met b f e) h
+
+-- the end that the entries name lies at or behind the place that they start from
+pub entries_onward : (k : Kind) (bs : List ℕ) (thread at n end : ℕ) → entries_end k bs thread at n ≡ Ok end → at ≤ end
+entries_onward k bs thread at zero end h =
+    let same : at ≡ end = cc in
+    omega arith
+entries_onward k bs thread at (suc n) end h =
+    let a = passed_demand (eqb (position bs thread) at && within 1 (count bs thread) (most_instructions k)) _ _ end h in
+    omega (arith, entries_onward k bs (thread + 1) (at + 6 * count bs thread) n end a.1)
 
 -- the limits of a thread's operands: g registers, m words, n instructions
 abbrev pub limits_for : Kind → ℕ → ℕ → ℕ → Limits

@@ -6,7 +6,7 @@ use Rattle.std.proofs.lemmas.Bool.{cond_both}
 use Rattle.std.proofs.lemmas.Bool.Decides.{nat_tests}
 use Rattle.model.specs.Sanity.{joined_on, stretches, stretches_of, thread_at, RoundsAreStretches}
 use Rattle.model.specs.StoreBuffer.{Machine, started, line, lines, Moved, moved, advanced, is_last, rounds_after}
-use Rattle.model.specs.Steps.{then}
+use Rattle.model.specs.Steps.{and_then}
 use Rattle.model.specs.Table.{Program}
 use Rattle.model.specs.declared.state.Line.{Line}
 use Rattle.model.proofs.Reading.{passed}
@@ -75,7 +75,7 @@ rounds_long false rs u n = length-set rs u n
 abbrev Goes : Machine → ℕ → Machine → Type 0
 Goes m t n = (n.rounds ≡ rounds_after m.rounds m.last t) × (n.last ≡ Some t)
 
-moved_goes : (m : Machine) (t : ℕ) (r : Moved) → IfOk (then r (λ x. Ok (advanced m t x))) (Goes m t)
+moved_goes : (m : Machine) (t : ℕ) (r : Moved) → IfOk (and_then r (λ x. Ok (advanced m t x))) (Goes m t)
 moved_goes m t (Ok r) = (refl, refl)
 moved_goes m t (Err f) = tt
 

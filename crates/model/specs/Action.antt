@@ -1,5 +1,5 @@
 -- What a thread at an instruction is about to do, the same for both machines.
-use Rattle.std.specs.Prelude.{ℕ, ◌+◌, ◌%◌, Bool, true, false, cond, Some, None, Option, ◌==◌, nat_lt, slice_index, slice_set}
+use Rattle.std.specs.Prelude.{ℕ, ◌+◌, ◌%◌, Bool, true, false, if◌then◌else◌, Some, None, Option, ◌==◌, nat_lt, slice_index, slice_set}
 use Rattle.model.specs.declared.code.Instruction.{Instruction}
 use Rattle.model.specs.declared.code.Instruction.TheVariants.{Set, Move, Add, Inc, Jump, IfEq, IfLt, Pick, Wait, Load, Store, Fence, Arw, Open, Shut, Call, Back}
 use Rattle.model.specs.declared.state.Thread.{Thread}
@@ -20,7 +20,7 @@ pub data Action : Type 0 where
 
 -- way 0 goes on, way 1 goes aside, there is no other
 abbrev pub way_of : ℕ → Option Way
-way_of w = cond (w == 0) (Some Next) (cond (w == 1) (Some Aside) None)
+way_of w = if w == 0 then Some Next else if w == 1 then Some Aside else None
 
 abbrev pub register : Thread → ℕ → ℕ
 register th r = slice_index th.registers r
@@ -50,37 +50,24 @@ about (Move p q) w th = only_next w (quiet (takes th p (register th q)))
 about (Add p q) w th = only_next w (quiet (takes th p ((register th p + register th q) % 256)))
 about (Inc p r) w th = only_next w (quiet (takes th p ((register th p + r) % 256)))
 about (Jump t) w th = only_next w (quiet (goes th t))
-about (IfEq p r t) w th = only_next w (quiet (cond (register th p == r) (goes th t) (onward th)))
-about (IfLt p q t) w th = only_next w (quiet (cond (nat_lt (register th p) (register th q)) (goes th t) (onward th)))
+about (IfEq p r t) w th = only_next w (quiet (if register th p == r then goes th t else onward th))
+about (IfLt p q t) w th = only_next w (quiet (if nat_lt (register th p) (register th q) then goes th t
+    else onward th))
 about (Pick t) w th = picks w th t
-about (Wait p q) w th = only_next w (cond (register th p == register th q) (quiet (onward th)) stuck)
+about (Wait p q) w th = only_next w (if register th p == register th q then quiet (onward th) else stuck)
 about (Load p q) w th = only_next w (reads q (λ v. takes th p v))
 about (Store p q) w th = only_next w (writes p (register th q) (onward th))
 about Fence w th = only_next w (fences (onward th))
 about (Arw p q r) w th = only_next w (swaps p (register th q) (register th r) (onward th))
-about (Open p r) w th = only_next w (cond (nat_lt (register th p) r) (opens (takes th p (register th p + 1))) stuck)
+about (Open p r) w th = only_next w (if nat_lt (register th p) r then opens (takes th p (register th p + 1))
+    else stuck)
 about (Shut t) w th = only_next w (shuts (goes th t))
 about (Call t) w th = only_next w (quiet (record { place = t; link = th.place + 1; registers = th.registers }))
 about Back w th = only_next w (quiet (goes th th.link))
 
 abbrev pub is_pick : Instruction → Bool
-is_pick (Set p r) = false
-is_pick (Move p q) = false
-is_pick (Add p q) = false
-is_pick (Inc p r) = false
-is_pick (Jump t) = false
-is_pick (IfEq p r t) = false
-is_pick (IfLt p q t) = false
 is_pick (Pick t) = true
-is_pick (Wait p q) = false
-is_pick (Load p q) = false
-is_pick (Store p q) = false
-is_pick Fence = false
-is_pick (Arw p q r) = false
-is_pick (Open p r) = false
-is_pick (Shut t) = false
-is_pick (Call t) = false
-is_pick Back = false
+is_pick i = false
 
 -- whether the instruction can go that way
 abbrev pub can_go : Instruction → Way → Bool

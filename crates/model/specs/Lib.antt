@@ -3,6 +3,7 @@ pub mod Encoding
 pub mod Examples
 pub mod Law
 pub mod Memory
+pub mod Ops
 pub mod Plain
 pub mod Refusals
 pub mod Registers

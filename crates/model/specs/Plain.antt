@@ -1,5 +1,7 @@
 -- The plain machine: sequentially consistent, it runs tables of either kind.
-use Rattle.std.specs.Prelude.{ℕ, Bool, true, false, cond, List, [], length, replicate, Some, None, Ok, Err, Option, Result, ◌==◌, nat_lt, slice_index, slice_index_or, slice_set}
+use Rattle.std.specs.Prelude.{ℕ, Bool, true, false, if◌then◌else◌, List, [], length, replicate, Some, None, Ok, Err, Option, Result, ◌==◌, nat_lt, slice_index, slice_index_or, slice_set}
+use Rattle.std.specs.Bool.{then_some}
+use Rattle.std.specs.Option.{ok_or}
 use Rattle.model.specs.Action.{Action, stuck, quiet, reads, writes, fences, swaps, opens, shuts, about, can_go, way_of}
 use Rattle.model.specs.Table.{Program, fetch, placed}
 use Rattle.model.specs.declared.code.Instruction.{Instruction}
@@ -47,10 +49,6 @@ abbrev pub may_step : Option ℕ → ℕ → Bool
 may_step None t = true
 may_step (Some u) t = u == t
 
-abbrev pub granted_if : Bool → State → Option State
-granted_if true s = Some s
-granted_if false s = None
-
 -- what an action does, if it has what it needs; nothing is ever pending
 abbrev pub performed : State → ℕ → Action → Option State
 performed s t stuck = None
@@ -58,25 +56,21 @@ performed s t (quiet th) = Some (with_thread s t th)
 performed s t (reads x f) = Some (with_thread s t (f (slice_index s.words x)))
 performed s t (writes x v th) = Some (with_word s x v t th)
 performed s t (fences th) = Some (with_thread s t th)
-performed s t (swaps x e v th) = granted_if (slice_index s.words x == e) (with_word s x v t th)
-performed s t (opens th) = granted_if (unheld s.holder) (with_holder s (Some t) t th)
-performed s t (shuts th) = granted_if (held_by s.holder t) (with_holder s None t th)
-
-abbrev pub or_refused : {A E : Type 0} → Option A → E → Result A E
-or_refused None e = Err e
-or_refused (Some x) e = Ok x
+performed s t (swaps x e v th) = then_some (slice_index s.words x == e) (with_word s x v t th)
+performed s t (opens th) = then_some (unheld s.holder) (with_holder s (Some t) t th)
+performed s t (shuts th) = then_some (held_by s.holder t) (with_holder s None t th)
 
 -- a step along a way that the instruction can go
 abbrev pub step_at : Program → State → ℕ → Instruction → Way → Result State MachineFault
 step_at p s t i w =
-    or_refused
-    (cond (may_step s.holder t) (performed s t (about i w (thread_of s.threads t))) None)
+    ok_or
+    (if may_step s.holder t then performed s t (about i w (thread_of s.threads t)) else None)
     (NotGranted (placed p.kind (thread_of s.threads t).place))
 
 abbrev pub step_way : Program → State → ℕ → Instruction → Option Way → Result State MachineFault
 step_way p s t i None = Err (NoWay (placed p.kind (thread_of s.threads t).place))
 step_way p s t i (Some w) =
-    cond (can_go i w) (step_at p s t i w) (Err (NoWay (placed p.kind (thread_of s.threads t).place)))
+    if can_go i w then step_at p s t i w else Err (NoWay (placed p.kind (thread_of s.threads t).place))
 
 abbrev pub step_on : Program → State → ℕ → ℕ → Option Instruction → Result State MachineFault
 step_on p s t w None = Err (Ended (placed p.kind (thread_of s.threads t).place))
@@ -85,7 +79,7 @@ step_on p s t w (Some i) = step_way p s t i (way_of w)
 -- one step of a thread by a way: refused for want of the thread, since it has ended, for the way, or not granted
 abbrev pub step : Program → State → ℕ → ℕ → Result State MachineFault
 step p s t w =
-    cond (nat_lt t (length p.code)) (step_on p s t w (fetch p t (thread_of s.threads t).place)) (Err (NoThread t))
+    if nat_lt t (length p.code) then step_on p s t w (fetch p t (thread_of s.threads t).place) else Err (NoThread t)
 
 -- how a step is answered, and the run after it: a refused step leaves the run as it was
 abbrev pub answer_of : {E : Type 0} → Result State E → Result (Unit {0}) E

@@ -1,5 +1,5 @@
 -- Many steps of a run: as the bytes of a list, and as calls some of which are refused.
-use Rattle.std.specs.Prelude.{◌≡◌, ℕ, ◌+◌, ◌*◌, ◌/◌, ◌%◌, ◌<◌, cond, List, [], ◌∷◌, Ok, Err, Result, nat_lt}
+use Rattle.std.specs.Prelude.{◌≡◌, ℕ, ◌+◌, ◌*◌, ◌/◌, ◌%◌, ◌<◌, if◌then◌else◌, List, [], ◌∷◌, Ok, Err, Result, nat_lt}
 use Rattle.model.specs.Plain.{new_run, run_after, step}
 use Rattle.model.specs.Table.{Program, decode}
 use Rattle.model.specs.declared.state.State.{State}
@@ -13,7 +13,7 @@ at_index i (Err f) = Err (Step i f)
 
 -- the step that a byte asks for, thread + 4 × way, at its index in the list
 abbrev pub byte_step : Program → State → ℕ → ℕ → Result State StepsFault
-byte_step p s i b = cond (nat_lt b 8) (at_index i (step p s (b % 4) (b / 4))) (Err (Byte i))
+byte_step p s i b = if nat_lt b 8 then at_index i (step p s (b % 4) (b / 4)) else Err (Byte i)
 
 -- how a list of steps is answered, and the run after it
 pub record Ran : Type 0 where

@@ -1,5 +1,5 @@
 -- Laws of the machines and memories in the subject's words.
-use Rattle.std.specs.Prelude.{◌≡◌, ℕ, ◌+◌, ◌<◌, ◌≤◌, Bool, cond, List, [], ◌∷◌, map, length, Some, None, Ok, Err, ◌==◌, ◌≢◌, slice_index}
+use Rattle.std.specs.Prelude.{◌≡◌, ℕ, ◌+◌, ◌<◌, ◌≤◌, Bool, if◌then◌else◌, List, [], ◌∷◌, map, length, Some, None, Ok, Err, ◌==◌, ◌≢◌, slice_index}
 use Rattle.model.specs.Memory.{Memory, pending_of, cleared, look, put, drain, exchange}
 use Rattle.model.specs.Plain.{step, thread_of}
 use Rattle.model.specs.Runs.{Call, asked}
@@ -65,7 +65,7 @@ DrainsKeepLooks =
 abbrev pub joined_on : ℕ → List (List ℕ) → List (List ℕ)
 joined_on x [] = (x ∷ []) ∷ []
 joined_on x ([] ∷ gs) = (x ∷ []) ∷ gs
-joined_on x ((y ∷ ys) ∷ gs) = cond (x == y) ((x ∷ y ∷ ys) ∷ gs) ((x ∷ []) ∷ (y ∷ ys) ∷ gs)
+joined_on x ((y ∷ ys) ∷ gs) = if x == y then (x ∷ y ∷ ys) ∷ gs else (x ∷ []) ∷ (y ∷ ys) ∷ gs
 
 abbrev pub stretches : List ℕ → List (List ℕ)
 stretches [] = []
@@ -75,7 +75,7 @@ stretches (x ∷ xs) = joined_on x (stretches xs)
 abbrev pub stretches_of : ℕ → List (List ℕ) → ℕ
 stretches_of t [] = 0
 stretches_of t ([] ∷ gs) = stretches_of t gs
-stretches_of t ((x ∷ xs) ∷ gs) = cond (x == t) 1 0 + stretches_of t gs
+stretches_of t ((x ∷ xs) ∷ gs) = (if x == t then 1 else 0) + stretches_of t gs
 
 abbrev pub thread_at : Line → ℕ
 thread_at l = l.thread

@@ -1,16 +1,16 @@
 -- The schedule that a run of a translated table stands for.
-use Rattle.std.specs.Prelude.{ℕ, ◌+◌, ◌-◌, ◌/◌, ◌%◌, max, Bool, true, false, cond, List, [], ◌∷◌, ◌++◌, map, length, drop, replicate, Some, None, Ok, Err, Option, Result, ◌==◌, nat_le, nat_lt, slice_index, slice_index_or, slice_set}
+use Rattle.std.specs.Prelude.{ℕ, ◌+◌, ◌-◌, ◌/◌, ◌%◌, max, Bool, true, false, if◌then◌else◌, List, [], ◌∷◌, ◌++◌, map, length, drop, replicate, Some, None, Ok, Err, Option, Result, ◌==◌, nat_le, nat_lt, slice_index, slice_index_or, slice_set}
 use Rattle.model.specs.Action.{register, way_of}
 use Rattle.model.specs.Encoding.{encode}
 use Rattle.model.specs.Plain.{new_run, step, thread_of, unheld}
 use Rattle.model.specs.Registers.{Layout, now, drain, index}
 use Rattle.model.specs.Runs.{Call, byte_step}
-use Rattle.model.specs.Steps.{then}
+use Rattle.model.specs.Steps.{and_then, demand}
 use Rattle.model.specs.StoreBuffer.{line_byte}
 use Rattle.model.specs.Table.{Program, decode, fetch}
 use Rattle.model.specs.Translation.{body_size, layout_of, translated}
 use Rattle.model.specs.declared.code.Instruction.{Instruction}
-use Rattle.model.specs.declared.code.Instruction.TheVariants.{Set, Move, Add, Inc, Jump, IfEq, IfLt, Pick, Wait, Load, Store, Fence, Arw, Open, Shut, Call as CallTo, Back}
+use Rattle.model.specs.declared.code.Instruction.TheVariants.{Store, Open}
 use Rattle.model.specs.declared.code.Kind.{Kind}
 use Rattle.model.specs.declared.code.Kind.TheVariants as kind
 use Rattle.model.specs.declared.state.State.{State}
@@ -48,7 +48,8 @@ new_log =
 abbrev pub inside : ℕ → List Instruction → ℕ → Option Instruction
 inside k [] at = None
 inside k (i ∷ is) at =
-    cond (nat_lt at (4 + body_size k i)) (cond (nat_lt at 4) None (Some i)) (inside k is (at - (4 + body_size k i)))
+    if nat_lt at (4 + body_size k i) then (if nat_lt at 4 then None else Some i)
+    else inside k is (at - (4 + body_size k i))
 
 abbrev pub step_line : ℕ → Way → Line
 step_line t w = record { thread = t; act = Step w }
@@ -103,27 +104,12 @@ queue_logged g t j =
     }
 
 abbrev pub store_logged : Log → ℕ → ℕ → ℕ → Log
-store_logged g t now_is drain_is = cond (nat_lt now_is drain_is) (queue_logged g t drain_is) (direct_logged g t)
+store_logged g t now_is drain_is = if nat_lt now_is drain_is then queue_logged g t drain_is else direct_logged g t
 
 -- a finished body writes the step of its instruction
 abbrev pub body_logged : Layout → Log → ℕ → Way → Thread → Instruction → Log
 body_logged l g t w th (Store p q) = store_logged g t (register th (index l now)) (register th (index l drain))
-body_logged l g t w th (Set p r) = step_logged g t w
-body_logged l g t w th (Move p q) = step_logged g t w
-body_logged l g t w th (Add p q) = step_logged g t w
-body_logged l g t w th (Inc p r) = step_logged g t w
-body_logged l g t w th (Jump t') = step_logged g t w
-body_logged l g t w th (IfEq p r t') = step_logged g t w
-body_logged l g t w th (IfLt p q t') = step_logged g t w
-body_logged l g t w th (Pick t') = step_logged g t w
-body_logged l g t w th (Wait p q) = step_logged g t w
-body_logged l g t w th (Load p q) = step_logged g t w
-body_logged l g t w th Fence = step_logged g t w
-body_logged l g t w th (Arw p q r) = step_logged g t w
-body_logged l g t w th (Open p r) = step_logged g t w
-body_logged l g t w th (Shut t') = step_logged g t w
-body_logged l g t w th (CallTo t') = step_logged g t w
-body_logged l g t w th Back = step_logged g t w
+body_logged l g t w th i = step_logged g t w
 
 -- a body is finished by the step that leads out of it
 abbrev pub left_body : Layout → Log → ℕ → Way → Thread → Option Instruction → Option Instruction → Log
@@ -132,24 +118,8 @@ left_body l g t w th (Some i) (Some j) = g
 left_body l g t w th (Some i) None = body_logged l g t w th i
 
 abbrev pub opens_round : Option Instruction → Bool
-opens_round None = false
-opens_round (Some (Set p r)) = false
-opens_round (Some (Move p q)) = false
-opens_round (Some (Add p q)) = false
-opens_round (Some (Inc p r)) = false
-opens_round (Some (Jump t)) = false
-opens_round (Some (IfEq p r t)) = false
-opens_round (Some (IfLt p q t)) = false
-opens_round (Some (Pick t)) = false
-opens_round (Some (Wait p q)) = false
-opens_round (Some (Load p q)) = false
-opens_round (Some (Store p q)) = false
-opens_round (Some Fence) = false
-opens_round (Some (Arw p q r)) = false
 opens_round (Some (Open p r)) = true
-opens_round (Some (Shut t)) = false
-opens_round (Some (CallTo t)) = false
-opens_round (Some Back) = false
+opens_round o = false
 
 -- what a granted step of a thread adds, seen from the thread before it and after it
 abbrev pub logged : Program → Program → Log → ℕ → Way → Thread → Thread → Log
@@ -210,10 +180,6 @@ of_kind kind.Source kind.Translated = false
 of_kind kind.Translated kind.Source = false
 of_kind kind.Translated kind.Translated = true
 
-abbrev pub demanded : Bool → ScheduleFault → Writes (Unit {0})
-demanded true f = Ok tt
-demanded false f = Err f
-
 abbrev pub table_read : List ℕ → Writes Program
 table_read bs = elim (decode bs) [ Ok p ↦ Ok p | Err f ↦ Err (fault.Table f) ]
 
@@ -229,18 +195,17 @@ listed p q list =
 abbrev pub scheduled : List ℕ → Log → Writes (Written × List ℕ)
 scheduled out g =
     let bs = map line_byte g.lines in
-    cond (nat_le (length bs) (length out))
-    (Ok (record { count = length bs; deepest = g.deepest }, bs ++ drop (length bs) out))
-    (Err (fault.Short (length bs)))
+    if nat_le (length bs) (length out) then Ok (record { count = length bs; deepest = g.deepest }, bs ++ drop (length bs) out)
+    else Err (fault.Short (length bs))
 
 -- The schedule writer: faults of the first table, of the second, their kinds, the second no translation of the
 -- first, the list's refusals, a section open at its end, the output too short.
 abbrev pub schedule : List ℕ → List ℕ → List ℕ → List ℕ → Writes (Written × List ℕ)
 schedule first second list out =
-    then (table_read first)
-    (λ p. then (table_read second)
-    (λ q. then (demanded (of_kind p.kind kind.Source) (fault.Table (WrongKind First)))
-    (λ _. then (demanded (of_kind q.kind kind.Translated) (fault.Table (WrongKind Second)))
-    (λ _. then (is_translation p q second)
-    (λ _. then (listed p q list)
-    (λ r. then (demanded (unheld r.0.holder) (fault.SectionOpen (length list))) (λ _. scheduled out r.1)))))))
+    and_then (table_read first)
+    (λ p. and_then (table_read second)
+    (λ q. and_then (demand (of_kind p.kind kind.Source) (fault.Table (WrongKind First)))
+    (λ _. and_then (demand (of_kind q.kind kind.Translated) (fault.Table (WrongKind Second)))
+    (λ _. and_then (is_translation p q second)
+    (λ _. and_then (listed p q list)
+    (λ r. and_then (demand (unheld r.0.holder) (fault.SectionOpen (length list))) (λ _. scheduled out r.1)))))))

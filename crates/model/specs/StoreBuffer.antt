@@ -1,6 +1,6 @@
 -- The store-buffer machine: it runs source tables over a memory, whose pending stores are the threads' queues.
-use Rattle.std.specs.Prelude.{ℕ, ◌+◌, ◌*◌, ◌/◌, ◌%◌, max, Bool, true, false, cond, ◌&&◌, List, [], ◌∷◌, length, take, replicate, Some, None, Ok, Err, Option, Result, ◌==◌, nat_le, nat_lt, slice_index, slice_set}
-use Rattle.model.specs.Steps.{then}
+use Rattle.std.specs.Prelude.{ℕ, ◌+◌, ◌*◌, ◌/◌, ◌%◌, max, Bool, true, false, if◌then◌else◌, ◌&&◌, List, [], ◌∷◌, length, take, replicate, Some, None, Ok, Err, Option, Result, ◌==◌, nat_le, nat_lt, slice_index, slice_set}
+use Rattle.model.specs.Steps.{and_then}
 use Rattle.model.specs.Action.{Action, stuck, quiet, reads, writes, fences, swaps, opens, shuts, about, can_go}
 use Rattle.model.specs.Memory.{Memory, Answer, cleared, look, put, drain, idle, exchange}
 use Rattle.model.specs.Plain.{new_thread, thread_of}
@@ -51,25 +51,25 @@ Moved = Result (Memory × Thread) MachineFault
 
 -- goes on where nothing of the thread is pending
 abbrev pub if_idle : Memory → ℕ → Place → Moved → Moved
-if_idle m t at next = then (lifted (idle m t)) (λ n. cond (n == 0) next (Err (machine.NotGranted at)))
+if_idle m t at next = and_then (lifted (idle m t)) (λ n. if n == 0 then next else Err (machine.NotGranted at))
 
 abbrev pub if_swapped : Place → Thread → Bool × Memory → Moved
-if_swapped at th r = cond r.0 (Ok (r.1, th)) (Err (machine.NotGranted at))
+if_swapped at th r = if r.0 then Ok (r.1, th) else Err (machine.NotGranted at)
 
 -- what an action does with the memory; a refusal of its own is at the thread's place
 abbrev pub performed : Memory → ℕ → Place → Action → Moved
 performed m t at stuck = Err (machine.NotGranted at)
 performed m t at (quiet th) = Ok (m, th)
-performed m t at (reads x f) = then (lifted (look m t x)) (λ v. Ok (m, f v))
-performed m t at (writes x v th) = then (lifted (put m t x v)) (λ n. Ok (n, th))
+performed m t at (reads x f) = and_then (lifted (look m t x)) (λ v. Ok (m, f v))
+performed m t at (writes x v th) = and_then (lifted (put m t x v)) (λ n. Ok (n, th))
 performed m t at (fences th) = if_idle m t at (Ok (m, th))
-performed m t at (swaps x e v th) = if_idle m t at (then (lifted (exchange m x e v)) (if_swapped at th))
+performed m t at (swaps x e v th) = if_idle m t at (and_then (lifted (exchange m x e v)) (if_swapped at th))
 performed m t at (opens th) = Err (machine.NotGranted at)
 performed m t at (shuts th) = Err (machine.NotGranted at)
 
 abbrev pub stepped_by : Memory → ℕ → Thread → Place → Way → Option Instruction → Moved
 stepped_by m t th at w None = Err (machine.Ended at)
-stepped_by m t th at w (Some i) = cond (can_go i w) (performed m t at (about i w th)) (Err (machine.NoWay at))
+stepped_by m t th at w (Some i) = if can_go i w then performed m t at (about i w th) else Err (machine.NoWay at)
 
 abbrev pub stepped : Program → Machine → ℕ → Way → Moved
 stepped p m t w =
@@ -77,7 +77,7 @@ stepped p m t w =
     stepped_by m.memory t th (placed p.kind th.place) w (fetch p t th.place)
 
 abbrev pub drain_moved : Machine → ℕ → Moved
-drain_moved m t = then (lifted (drain m.memory t)) (λ n. Ok (n, thread_of m.threads t))
+drain_moved m t = and_then (lifted (drain m.memory t)) (λ n. Ok (n, thread_of m.threads t))
 
 abbrev pub moved : Program → Machine → ℕ → Act → Moved
 moved p m t (Step w) = stepped p m t w
@@ -89,7 +89,7 @@ is_last (Some u) t = u == t
 
 -- a line of another thread than the last one begins a round
 abbrev pub rounds_after : List ℕ → Option ℕ → ℕ → List ℕ
-rounds_after rs last t = cond (is_last last t) rs (slice_set rs t (slice_index rs t + 1))
+rounds_after rs last t = if is_last last t then rs else slice_set rs t (slice_index rs t + 1)
 
 abbrev pub advanced : Machine → ℕ → Memory × Thread → Machine
 advanced m t r =
@@ -104,14 +104,13 @@ advanced m t r =
 -- one line: refused for want of the thread, as a step is, or by the memory
 abbrev pub line : Program → Machine → Line → Result Machine MachineFault
 line p m l =
-    cond (nat_lt l.thread (length p.code))
-    (then (moved p m l.thread l.act) (λ r. Ok (advanced m l.thread r)))
-    (Err (machine.NoThread l.thread))
+    if nat_lt l.thread (length p.code) then and_then (moved p m l.thread l.act) (λ r. Ok (advanced m l.thread r))
+    else Err (machine.NoThread l.thread)
 
 -- a schedule is accepted if every line is granted
 abbrev pub lines : Program → Machine → List Line → Result Machine MachineFault
 lines p m [] = Ok m
-lines p m (l ∷ ls) = then (line p m l) (λ n. lines p n ls)
+lines p m (l ∷ ls) = and_then (line p m l) (λ n. lines p n ls)
 
 -- the greatest length of any pending list along a schedule
 abbrev pub longest : List (List Store) → ℕ
@@ -132,10 +131,10 @@ abbrev pub line_byte : Line → ℕ
 line_byte l = l.thread + 4 * kind_of_act l.act
 
 abbrev pub act_of : ℕ → Act
-act_of k = cond (k == 0) (Step Next) (cond (k == 1) (Step Aside) Drain)
+act_of k = if k == 0 then Step Next else if k == 1 then Step Aside else Drain
 
 abbrev pub byte_line : ℕ → Option Line
-byte_line b = cond (nat_le b 11) (Some (record { thread = b % 4; act = act_of (b / 4) })) None
+byte_line b = if nat_le b 11 then Some (record { thread = b % 4; act = act_of (b / 4) }) else None
 
 -- a replay so far: the machine, and the refused line if there was one
 pub record Replay : Type 0 where
@@ -183,6 +182,5 @@ same (x ∷ xs) (y ∷ ys) = x == y && same xs ys
 abbrev pub goal : List ℕ → List ℕ → List ℕ → Memory → Answered Bool
 goal table schedule wanted m =
     with_source table m
-    (λ p. cond (length wanted == p.words)
-    (replay_ended (taken p (started m) schedule) (λ n. same (take p.words n.memory.words) wanted))
-    (Err (replay_fault.Goal (length wanted)), m))
+    (λ p. if length wanted == p.words then replay_ended (taken p (started m) schedule) (λ n. same (take p.words n.memory.words) wanted)
+    else (Err (replay_fault.Goal (length wanted)), m))

@@ -1,7 +1,7 @@
 -- The table format: which byte strings are tables, which fault comes first, and what a table says.
-use Rattle.std.specs.Prelude.{ℕ, zero, suc, ◌+◌, ◌*◌, Bool, true, false, cond, ◌&&◌, List, [], ◌∷◌, length, Some, None, Ok, Err, Option, Result, ◌==◌, nat_le, nat_lt, slice_index, slice_index_or}
+use Rattle.std.specs.Prelude.{ℕ, zero, suc, ◌+◌, ◌*◌, Bool, true, false, if◌then◌else◌, ◌&&◌, List, [], ◌∷◌, length, Some, None, Ok, Option, Result, ◌==◌, nat_le, nat_lt, slice_index, slice_index_or}
 use Rattle.std.specs.List.{slice_get}
-use Rattle.model.specs.Steps.{then}
+use Rattle.model.specs.Steps.{and_then, demand}
 use Rattle.model.specs.declared.code.Kind.{Kind}
 use Rattle.model.specs.declared.code.Kind.TheVariants.{Source, Translated}
 use Rattle.model.specs.declared.code.Instruction.{Instruction}
@@ -26,11 +26,6 @@ pub record Program : Type 0 where
 abbrev pub Checked : Type 0
 Checked = Result (Unit {0}) TableFault
 
--- goes on if the test holds, refuses by the fault otherwise
-abbrev pub demand : Bool → TableFault → Checked
-demand true f = Ok tt
-demand false f = Err f
-
 -- the two-byte number at a position, low byte first
 abbrev pub two : List ℕ → ℕ → ℕ
 two bs at = slice_index bs at + 256 * slice_index bs (at + 1)
@@ -39,7 +34,7 @@ abbrev pub within : ℕ → ℕ → ℕ → Bool
 within low n high = nat_le low n && nat_le n high
 
 abbrev pub kind_of : ℕ → Kind
-kind_of b = cond (b == 0) Source Translated
+kind_of b = if b == 0 then Source else Translated
 
 -- how many ops a kind of table has, and its largest counts of registers, rounds and instructions
 abbrev pub ops : Kind → ℕ
@@ -68,44 +63,44 @@ shape_of p q r t = record { p = p; q = q; r = r; aims = t }
 
 abbrev pub shape : ℕ → Shape
 shape op =
-    cond (op == 0) (shape_of Register Unused Constant false)
-    (cond (op == 1) (shape_of Register Register Unused false)
-    (cond (op == 2) (shape_of Register Register Unused false)
-    (cond (op == 3) (shape_of Register Unused Constant false)
-    (cond (op == 4) (shape_of Unused Unused Unused true)
-    (cond (op == 5) (shape_of Register Unused Constant true)
-    (cond (op == 6) (shape_of Register Register Unused true)
-    (cond (op == 7) (shape_of Unused Unused Unused true)
-    (cond (op == 8) (shape_of Register Register Unused false)
-    (cond (op == 9) (shape_of Register Word Unused false)
-    (cond (op == 10) (shape_of Word Register Unused false)
-    (cond (op == 11) (shape_of Unused Unused Unused false)
-    (cond (op == 12) (shape_of Word Register Register false)
-    (cond (op == 13) (shape_of Register Unused Constant false)
-    (cond (op == 14) (shape_of Unused Unused Unused true)
-    (cond (op == 15) (shape_of Unused Unused Unused true)
-    (shape_of Unused Unused Unused false))))))))))))))))
+    if op == 0 then shape_of Register Unused Constant false
+    else if op == 1 then shape_of Register Register Unused false
+    else if op == 2 then shape_of Register Register Unused false
+    else if op == 3 then shape_of Register Unused Constant false
+    else if op == 4 then shape_of Unused Unused Unused true
+    else if op == 5 then shape_of Register Unused Constant true
+    else if op == 6 then shape_of Register Register Unused true
+    else if op == 7 then shape_of Unused Unused Unused true
+    else if op == 8 then shape_of Register Register Unused false
+    else if op == 9 then shape_of Register Word Unused false
+    else if op == 10 then shape_of Word Register Unused false
+    else if op == 11 then shape_of Unused Unused Unused false
+    else if op == 12 then shape_of Word Register Register false
+    else if op == 13 then shape_of Register Unused Constant false
+    else if op == 14 then shape_of Unused Unused Unused true
+    else if op == 15 then shape_of Unused Unused Unused true
+    else shape_of Unused Unused Unused false
 
 -- the instruction of an op and its fields
 abbrev pub instruction_of : ℕ → ℕ → ℕ → ℕ → ℕ → Instruction
 instruction_of op p q r t =
-    cond (op == 0) (Set p r)
-    (cond (op == 1) (Move p q)
-    (cond (op == 2) (Add p q)
-    (cond (op == 3) (Inc p r)
-    (cond (op == 4) (Jump t)
-    (cond (op == 5) (IfEq p r t)
-    (cond (op == 6) (IfLt p q t)
-    (cond (op == 7) (Pick t)
-    (cond (op == 8) (Wait p q)
-    (cond (op == 9) (Load p q)
-    (cond (op == 10) (Store p q)
-    (cond (op == 11) Fence
-    (cond (op == 12) (Arw p q r)
-    (cond (op == 13) (Open p r)
-    (cond (op == 14) (Shut t)
-    (cond (op == 15) (Call t)
-    Back)))))))))))))))
+    if op == 0 then Set p r
+    else if op == 1 then Move p q
+    else if op == 2 then Add p q
+    else if op == 3 then Inc p r
+    else if op == 4 then Jump t
+    else if op == 5 then IfEq p r t
+    else if op == 6 then IfLt p q t
+    else if op == 7 then Pick t
+    else if op == 8 then Wait p q
+    else if op == 9 then Load p q
+    else if op == 10 then Store p q
+    else if op == 11 then Fence
+    else if op == 12 then Arw p q r
+    else if op == 13 then Open p r
+    else if op == 14 then Shut t
+    else if op == 15 then Call t
+    else Back
 
 -- a field has to stay below its limit; an unused one below 1, a target at most at the count
 abbrev pub field_limit : Limits → Role → ℕ
@@ -121,14 +116,14 @@ target_limit l false = 1
 -- the first fault of an instruction's fields: op, p, q, r, target
 abbrev pub operands_fault : Limits → Shape → ℕ → ℕ → ℕ → ℕ → ℕ → Checked
 operands_fault l s at p q r t =
-    then (demand (nat_lt p (field_limit l s.p)) (Operand (at + 1)))
-    (λ _. then (demand (nat_lt q (field_limit l s.q)) (Operand (at + 2)))
-    (λ _. then (demand (nat_lt r (field_limit l s.r)) (Operand (at + 3)))
+    and_then (demand (nat_lt p (field_limit l s.p)) (Operand (at + 1)))
+    (λ _. and_then (demand (nat_lt q (field_limit l s.q)) (Operand (at + 2)))
+    (λ _. and_then (demand (nat_lt r (field_limit l s.r)) (Operand (at + 3)))
     (λ _. demand (nat_lt t (target_limit l s.aims)) (Operand (at + 4)))))
 
 abbrev pub fields_fault : Limits → ℕ → ℕ → ℕ → ℕ → ℕ → ℕ → Checked
 fields_fault l at op p q r t =
-    then (demand (nat_lt op l.ops) (Op at)) (λ _. operands_fault l (shape op) at p q r t)
+    and_then (demand (nat_lt op l.ops) (Op at)) (λ _. operands_fault l (shape op) at p q r t)
 
 -- the six bytes at a position: their first fault, and the instruction that they spell
 abbrev pub instruction_fault : Limits → List ℕ → ℕ → Checked
@@ -142,7 +137,7 @@ instruction_at bs at =
 -- the first fault of so many instructions from a position on
 abbrev pub code_fault : Limits → List ℕ → ℕ → ℕ → Checked
 code_fault l bs at zero = Ok tt
-code_fault l bs at (suc n) = then (instruction_fault l bs at) (λ _. code_fault l bs (at + 6) n)
+code_fault l bs at (suc n) = and_then (instruction_fault l bs at) (λ _. code_fault l bs (at + 6) n)
 
 abbrev pub code_at : List ℕ → ℕ → ℕ → List Instruction
 code_at bs at zero = []
@@ -162,11 +157,11 @@ count bs thread = two bs (entry_at thread + 2)
 abbrev pub header_fault : List ℕ → Checked
 header_fault bs =
     let k = kind_of (slice_index bs 1) in
-    then (demand (slice_index bs 0 == 1) (Header 0))
-    (λ _. then (demand (nat_le (slice_index bs 1) 1) (Header 1))
-    (λ _. then (demand (within 1 (slice_index bs 2) 4) (Header 2))
-    (λ _. then (demand (within 1 (slice_index bs 3) 8) (Header 3))
-    (λ _. then (demand (within 1 (slice_index bs 4) (most_registers k)) (Header 4))
+    and_then (demand (slice_index bs 0 == 1) (Header 0))
+    (λ _. and_then (demand (nat_le (slice_index bs 1) 1) (Header 1))
+    (λ _. and_then (demand (within 1 (slice_index bs 2) 4) (Header 2))
+    (λ _. and_then (demand (within 1 (slice_index bs 3) 8) (Header 3))
+    (λ _. and_then (demand (within 1 (slice_index bs 4) (most_registers k)) (Header 4))
     (λ _. demand (within (least_rounds k) (slice_index bs 5) (most_rounds k)) (Header 5))))))
 
 -- an entry has to name the position where the thread's code begins, and a count in range
@@ -178,7 +173,7 @@ entry_fault k bs thread at =
 abbrev pub entries_end : Kind → List ℕ → ℕ → ℕ → ℕ → Result ℕ TableFault
 entries_end k bs thread at zero = Ok at
 entries_end k bs thread at (suc n) =
-    then (entry_fault k bs thread at) (λ _. entries_end k bs (thread + 1) (at + 6 * count bs thread) n)
+    and_then (entry_fault k bs thread at) (λ _. entries_end k bs (thread + 1) (at + 6 * count bs thread) n)
 
 abbrev pub limits : List ℕ → ℕ → Limits
 limits bs thread =
@@ -190,7 +185,7 @@ thread_fault bs thread = code_fault (limits bs thread) bs (position bs thread) (
 -- the code of so many threads from one on
 abbrev pub codes_fault : List ℕ → ℕ → ℕ → Checked
 codes_fault bs thread zero = Ok tt
-codes_fault bs thread (suc n) = then (thread_fault bs thread) (λ _. codes_fault bs (thread + 1) n)
+codes_fault bs thread (suc n) = and_then (thread_fault bs thread) (λ _. codes_fault bs (thread + 1) n)
 
 abbrev pub codes_at : List ℕ → ℕ → ℕ → List (List Instruction)
 codes_at bs thread zero = []
@@ -201,11 +196,11 @@ abbrev pub table_fault : List ℕ → Checked
 table_fault bs =
     let threads = slice_index bs 2 in
     let long = length bs in
-    then (demand (nat_le 6 long) (Length long))
-    (λ _. then (header_fault bs)
-    (λ _. then (demand (nat_le (6 + 4 * threads) long) (Length long))
-    (λ _. then (entries_end (kind_of (slice_index bs 1)) bs 0 (6 + 4 * threads) threads)
-    (λ end. then (demand (end == long) (Length long))
+    and_then (demand (nat_le 6 long) (Length long))
+    (λ _. and_then (header_fault bs)
+    (λ _. and_then (demand (nat_le (6 + 4 * threads) long) (Length long))
+    (λ _. and_then (entries_end (kind_of (slice_index bs 1)) bs 0 (6 + 4 * threads) threads)
+    (λ end. and_then (demand (end == long) (Length long))
     (λ _. codes_fault bs 0 threads)))))
 
 -- what the bytes say, read at the places that a table has
@@ -221,7 +216,7 @@ program_of bs =
 
 -- a table is refused by its first fault, or says its program
 abbrev pub decode : List ℕ → Result Program TableFault
-decode bs = then (table_fault bs) (λ _. Ok (program_of bs))
+decode bs = and_then (table_fault bs) (λ _. Ok (program_of bs))
 
 -- a place in the measure of the table's kind
 abbrev pub placed : Kind → ℕ → Place
@@ -234,20 +229,5 @@ fetch p thread place = slice_get (slice_index_or p.code thread []) place
 
 -- where an instruction goes aside: only PICK does
 abbrev pub aside_of : Instruction → Option ℕ
-aside_of (Set p r) = None
-aside_of (Move p q) = None
-aside_of (Add p q) = None
-aside_of (Inc p r) = None
-aside_of (Jump t) = None
-aside_of (IfEq p r t) = None
-aside_of (IfLt p q t) = None
 aside_of (Pick t) = Some t
-aside_of (Wait p q) = None
-aside_of (Load p q) = None
-aside_of (Store p q) = None
-aside_of Fence = None
-aside_of (Arw p q r) = None
-aside_of (Open p r) = None
-aside_of (Shut t) = None
-aside_of (Call t) = None
-aside_of Back = None
+aside_of i = None

@@ -1,5 +1,5 @@
 -- The translation of a source table: each source place becomes a block, and stores wait in registers.
-use Rattle.std.specs.Prelude.{ℕ, zero, suc, ◌+◌, ◌-◌, ◌*◌, cond, List, [], ◌∷◌, ◌++◌, length, drop, Ok, Err, Result, nat_le}
+use Rattle.std.specs.Prelude.{ℕ, zero, suc, ◌+◌, ◌-◌, ◌*◌, if◌then◌else◌, List, [], ◌∷◌, ◌++◌, length, drop, Ok, Err, Result, nat_le}
 use Rattle.model.specs.Encoding.{encode}
 use Rattle.model.specs.Registers.{Layout, Name, now, drain, view, mask, queue, index, register_count}
 use Rattle.model.specs.Table.{Program, decode, within}
@@ -194,7 +194,7 @@ Translates = Result (List ℕ) TranslateFault
 -- the bytes go to the front of the output, which keeps the rest
 abbrev pub written_to : List ℕ → List ℕ → Translates
 written_to out bs =
-    cond (nat_le (length bs) (length out)) (Ok (bs ++ drop (length bs) out)) (Err (fault.Short (length bs)))
+    if nat_le (length bs) (length out) then Ok (bs ++ drop (length bs) out) else Err (fault.Short (length bs))
 
 -- what translating a table into an output leaves there; refused by the table, its kind, the rounds, the room
 abbrev pub translate : List ℕ → ℕ → List ℕ → Translates
@@ -202,7 +202,7 @@ translate table k out =
     elim (decode table) [
       | Err f ↦ Err (fault.Table f)
       | Ok p ↦ elim p.kind [
-        | kind.Source ↦ cond (within 1 k 4) (written_to out (encode (translated p k))) (Err (fault.Rounds k))
+        | kind.Source ↦ if within 1 k 4 then written_to out (encode (translated p k)) else Err (fault.Rounds k)
         | kind.Translated ↦ Err (fault.Table (WrongKind First))
       ]
     ]

@@ -5,7 +5,7 @@ ghost use Rattle.model.specs.declared.faults.MachineFault.TheVariants.{Memory};
 use crate::places::{Place, ScheduleLine};
 
 /// The part of the program that refuses.
-#[derive(Clone, Copy)]
+#[derive(Clone, Copy, Debug, PartialEq, Eq)]
 pub enum Layer {
     Table,
     Translation,
@@ -14,8 +14,8 @@ pub enum Layer {
     Console,
 }
 
-/// A refusal as it is reported: its number, its place and its layer.
-#[derive(Clone, Copy)]
+/// A refusal as it is reported: its number, its place and its layer, as makers have them in their lists.
+#[derive(Clone, Copy, Debug, PartialEq, Eq)]
 pub struct Refusal {
     pub number: u8,
     pub place: usize,
@@ -23,14 +23,14 @@ pub struct Refusal {
 }
 
 /// Which of the tables that a call takes.
-#[derive(Clone, Copy)]
+#[derive(Clone, Copy, Debug, PartialEq, Eq)]
 pub enum Given {
     First,
     Second,
 }
 
-/// Why a table is refused; `at` is a byte of the table, counted from 0.
-#[derive(Clone, Copy)]
+/// Why a table is refused; `at` is a byte of the table, counted from 0, and `length` its length in bytes.
+#[derive(Clone, Copy, Debug, PartialEq, Eq)]
 pub enum TableFault {
     Length { length: usize },
     Header { at: usize },
@@ -41,7 +41,7 @@ pub enum TableFault {
 }
 
 /// Why a memory refuses a call.
-#[derive(Clone, Copy)]
+#[derive(Clone, Copy, Debug, PartialEq, Eq)]
 pub enum MemoryFault {
     NoThread { thread: u8 },
     NoWord { word: u8 },
@@ -50,7 +50,7 @@ pub enum MemoryFault {
 }
 
 /// Why a machine refuses a step or a line.
-#[derive(Clone, Copy)]
+#[derive(Clone, Copy, Debug, PartialEq, Eq)]
 pub enum MachineFault {
     NoThread { thread: u8 },
     Ended { place: Place },
@@ -60,28 +60,28 @@ pub enum MachineFault {
 }
 
 /// Why a list of steps is refused; `index` counts the list's bytes from 0.
-#[derive(Clone, Copy)]
+#[derive(Clone, Copy, Debug, PartialEq, Eq)]
 pub enum StepsFault {
     Byte { index: usize },
     Step { index: usize, fault: MachineFault },
 }
 
 /// Why a line of a schedule is refused: its byte is no line, or the machine refuses it.
-#[derive(Clone, Copy)]
+#[derive(Clone, Copy, Debug, PartialEq, Eq)]
 pub enum LineFault {
     Byte,
     Machine { fault: MachineFault },
 }
 
 /// A refused line, with its number.
-#[derive(Clone, Copy)]
+#[derive(Clone, Copy, Debug, PartialEq, Eq)]
 pub struct AtLine {
     pub line: ScheduleLine,
     pub fault: LineFault,
 }
 
 /// Why a replay is refused.
-#[derive(Clone, Copy)]
+#[derive(Clone, Copy, Debug, PartialEq, Eq)]
 pub enum ReplayFault {
     Table { fault: TableFault },
     Goal { length: usize },
@@ -89,7 +89,7 @@ pub enum ReplayFault {
 }
 
 /// Why a translation is refused.
-#[derive(Clone, Copy)]
+#[derive(Clone, Copy, Debug, PartialEq, Eq)]
 pub enum TranslateFault {
     Table { fault: TableFault },
     Rounds { rounds: u8 },
@@ -97,7 +97,7 @@ pub enum TranslateFault {
 }
 
 /// Why the schedule of a list of steps is refused.
-#[derive(Clone, Copy)]
+#[derive(Clone, Copy, Debug, PartialEq, Eq)]
 pub enum ScheduleFault {
     Table { fault: TableFault },
     Differs { at: usize },

@@ -5,6 +5,7 @@
 pub mod code;
 pub mod faults;
 pub mod laws;
+pub mod numbers;
 pub mod places;
 mod refusals;
 pub mod state;

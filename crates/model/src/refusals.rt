@@ -3,8 +3,8 @@ ghost use Rattle.std.specs.Prelude.{◌≡◌};
 ghost use Rattle.model.specs.Refusals.{refusal as refusal_of, line_refusal, machine_refusal, memory_refusal, place_index, replay_refusal, schedule_refusal, steps_refusal, table_refusal, translate_refusal};
 
 use crate::faults::{
-    AtLine, Given, Layer, LineFault, MachineFault, MemoryFault, Refusal, ReplayFault,
-    ScheduleFault, StepsFault, TableFault, TranslateFault,
+    AtLine, Layer, LineFault, MachineFault, MemoryFault, Refusal, ReplayFault, ScheduleFault,
+    StepsFault, TableFault, TranslateFault,
 };
 use crate::places::{Place, ScheduleLine, SourcePlace, TranslatedPlace};
 
@@ -18,47 +18,42 @@ fn numbered(number: u8, place: usize, layer: Layer) -> Refusal
     }
 }
 
-impl Place {
-    /// How many instructions of the thread stand before it.
-    pub fn index(&self) -> usize
-        ensures { result ≡ place_index self.now }
-    {
-        match *self {
+/// How many instructions of the thread stand before the place.
+impl From<Place> for usize {
+    ghost from_gives = { λ p n. n ≡ place_index p };
+
+    fn from(place: Place) -> usize {
+        match place {
             Place::Source(SourcePlace(n)) => n as usize,
             Place::Translated(TranslatedPlace(n)) => n as usize,
         }
     }
 }
 
-impl TableFault {
-    /// Number, place and layer of the refusal.
-    pub fn refusal(&self) -> Refusal
-        ensures { result ≡ table_refusal self.now }
-    {
+/// Number, place and layer of the refusal.
+impl From<TableFault> for Refusal {
+    ghost from_gives = { λ f r. r ≡ table_refusal f };
+
+    fn from(fault: TableFault) -> Refusal {
         let layer = Layer::Table;
-        match *self {
+        match fault {
             TableFault::Length { length } => numbered(1, length, layer),
             TableFault::Header { at } => numbered(2, at, layer),
             TableFault::Entry { at } => numbered(3, at, layer),
             TableFault::Op { at } => numbered(4, at, layer),
             TableFault::Operand { at } => numbered(5, at, layer),
-            TableFault::WrongKind {
-                table: Given::First,
-            } => numbered(7, 0, layer),
-            TableFault::WrongKind {
-                table: Given::Second,
-            } => numbered(7, 1, layer),
+            TableFault::WrongKind { table } => numbered(7, table as usize, layer),
         }
     }
 }
 
-impl MemoryFault {
-    /// Number, place and layer of the refusal.
-    pub fn refusal(&self) -> Refusal
-        ensures { result ≡ memory_refusal self.now }
-    {
+/// Number, place and layer of the refusal.
+impl From<MemoryFault> for Refusal {
+    ghost from_gives = { λ f r. r ≡ memory_refusal f };
+
+    fn from(fault: MemoryFault) -> Refusal {
         let layer = Layer::Memory;
-        match *self {
+        match fault {
             MemoryFault::NoThread { thread } => numbered(9, thread as usize, layer),
             MemoryFault::NoWord { word } => numbered(9, word as usize, layer),
             MemoryFault::Full { thread } => numbered(15, thread as usize, layer),
@@ -67,87 +62,87 @@ impl MemoryFault {
     }
 }
 
-impl MachineFault {
-    /// Number, place and layer of the refusal; a memory's refusal keeps its own.
-    pub fn refusal(&self) -> Refusal
-        ensures { result ≡ machine_refusal self.now }
-    {
+/// Number, place and layer of the refusal; a memory's refusal keeps its own.
+impl From<MachineFault> for Refusal {
+    ghost from_gives = { λ f r. r ≡ machine_refusal f };
+
+    fn from(fault: MachineFault) -> Refusal {
         let layer = Layer::Machine;
-        match *self {
+        match fault {
             MachineFault::NoThread { thread } => numbered(9, thread as usize, layer),
-            MachineFault::Ended { place } => numbered(11, place.index(), layer),
-            MachineFault::NoWay { place } => numbered(10, place.index(), layer),
-            MachineFault::NotGranted { place } => numbered(11, place.index(), layer),
-            MachineFault::Memory { fault } => fault.refusal(),
+            MachineFault::Ended { place } => numbered(11, place.into(), layer),
+            MachineFault::NoWay { place } => numbered(10, place.into(), layer),
+            MachineFault::NotGranted { place } => numbered(11, place.into(), layer),
+            MachineFault::Memory { fault } => fault.into(),
         }
     }
 }
 
-impl StepsFault {
-    /// Number, place and layer of the refusal: a step's refusal keeps its own.
-    pub fn refusal(&self) -> Refusal
-        ensures { result ≡ steps_refusal self.now }
-    {
-        match *self {
+/// Number, place and layer of the refusal: a step's refusal keeps its own.
+impl From<StepsFault> for Refusal {
+    ghost from_gives = { λ f r. r ≡ steps_refusal f };
+
+    fn from(fault: StepsFault) -> Refusal {
+        match fault {
             StepsFault::Byte { index } => numbered(12, index, Layer::Machine),
-            StepsFault::Step { index: _, fault } => fault.refusal(),
+            StepsFault::Step { index: _, fault } => fault.into(),
         }
     }
 }
 
-impl AtLine {
-    /// Number and layer of what was refused, at the line.
-    pub fn refusal(&self) -> Refusal
-        ensures { result ≡ line_refusal self.now }
-    {
-        let ScheduleLine(line) = self.line;
-        match self.fault {
+/// Number and layer of what was refused, at the line.
+impl From<AtLine> for Refusal {
+    ghost from_gives = { λ f r. r ≡ line_refusal f };
+
+    fn from(fault: AtLine) -> Refusal {
+        let ScheduleLine(line) = fault.line;
+        match fault.fault {
             LineFault::Byte => numbered(12, line, Layer::Machine),
             LineFault::Machine { fault } => {
-                let inner = fault.refusal();
+                let inner = Refusal::from(fault);
                 numbered(inner.number, line, inner.layer)
             }
         }
     }
 }
 
-impl ReplayFault {
-    /// Number, place and layer of the refusal: the line is the place once there is one.
-    pub fn refusal(&self) -> Refusal
-        ensures { result ≡ replay_refusal self.now }
-    {
-        match *self {
-            ReplayFault::Table { fault } => fault.refusal(),
+/// Number, place and layer of the refusal: the line is the place once there is one.
+impl From<ReplayFault> for Refusal {
+    ghost from_gives = { λ f r. r ≡ replay_refusal f };
+
+    fn from(fault: ReplayFault) -> Refusal {
+        match fault {
+            ReplayFault::Table { fault } => fault.into(),
             ReplayFault::Goal { length } => numbered(17, length, Layer::Machine),
-            ReplayFault::Line { at } => at.refusal(),
+            ReplayFault::Line { at } => at.into(),
         }
     }
 }
 
-impl TranslateFault {
-    /// Number, place and layer of the refusal.
-    pub fn refusal(&self) -> Refusal
-        ensures { result ≡ translate_refusal self.now }
-    {
+/// Number, place and layer of the refusal.
+impl From<TranslateFault> for Refusal {
+    ghost from_gives = { λ f r. r ≡ translate_refusal f };
+
+    fn from(fault: TranslateFault) -> Refusal {
         let layer = Layer::Translation;
-        match *self {
-            TranslateFault::Table { fault } => fault.refusal(),
+        match fault {
+            TranslateFault::Table { fault } => fault.into(),
             TranslateFault::Rounds { rounds } => numbered(6, rounds as usize, layer),
             TranslateFault::Short { needed } => numbered(8, needed, layer),
         }
     }
 }
 
-impl ScheduleFault {
-    /// Number, place and layer of the refusal.
-    pub fn refusal(&self) -> Refusal
-        ensures { result ≡ schedule_refusal self.now }
-    {
+/// Number, place and layer of the refusal.
+impl From<ScheduleFault> for Refusal {
+    ghost from_gives = { λ f r. r ≡ schedule_refusal f };
+
+    fn from(fault: ScheduleFault) -> Refusal {
         let layer = Layer::Translation;
-        match *self {
-            ScheduleFault::Table { fault } => fault.refusal(),
+        match fault {
+            ScheduleFault::Table { fault } => fault.into(),
             ScheduleFault::Differs { at } => numbered(13, at, layer),
-            ScheduleFault::Steps { fault } => fault.refusal(),
+            ScheduleFault::Steps { fault } => fault.into(),
             ScheduleFault::SectionOpen { length } => numbered(14, length, layer),
             ScheduleFault::Short { needed } => numbered(8, needed, layer),
         }

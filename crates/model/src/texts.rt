@@ -1,4 +1,5 @@
-//! The text that is printed for an instruction, a place and a refusal.
+//! The text that is printed for an instruction, a place and a refusal. Each `Display` is written out, since a derived one
+//! promises nothing of its text.
 ghost use Rattle.model.specs.Text.{given_text, instruction_text, kind_text, layer_text, machine_fault_text, memory_fault_text, place_text, refusal_text, table_fault_text};
 ghost use Rattle.std.specs.Prelude.{Some};
 
@@ -116,9 +117,11 @@ impl fmt::Display for Refusal {
     ghost output = { λ r. Some (refusal_text r) };
 
     fn fmt<W: fmt::Write>(&self, f: &mut fmt::Formatter<W>) -> fmt::Result {
-        let number = self.number;
-        let place = self.place;
-        let layer = self.layer;
+        let Refusal {
+            number,
+            place,
+            layer,
+        } = *self;
         write!(f, "refused {number} at {place} in {layer}")
     }
 }

@@ -1,26 +1,27 @@
-//! A call of a memory and what it answered, as a line.
+//! A call of a memory and what it answered, as a line. Each `Display` is written out, since a derived one promises nothing of its text.
 ghost use Rattle.std.specs.Prelude.{◌≡◌, Some};
 ghost use Rattle.memory.specs.Calls.{reply, next};
 ghost use Rattle.passages.specs.Lines.{call_text, reply_text, asked_text};
 
 use memory::calls::{Call, Reply, make};
 use memory::interface::SharedMemory;
+use model::faults::{MemoryFault, Refusal};
 use std::fmt;
 
 /// A call, to be printed.
-#[derive(Clone, Copy)]
+#[derive(Clone, Copy, PartialEq, Eq)]
 pub struct Question {
     pub call: Call,
 }
 
 /// An answer, to be printed.
-#[derive(Clone, Copy)]
+#[derive(Clone, Copy, PartialEq, Eq)]
 pub struct Answer {
-    pub reply: Reply,
+    pub reply: Result<Reply, MemoryFault>,
 }
 
 /// A call and its answer.
-#[derive(Clone, Copy)]
+#[derive(Clone, Copy, PartialEq, Eq)]
 pub struct Asked {
     pub question: Question,
     pub answer: Answer,
@@ -56,11 +57,11 @@ impl fmt::Display for Answer {
 
     fn fmt<W: fmt::Write>(&self, f: &mut fmt::Formatter<W>) -> fmt::Result {
         match self.reply {
-            Reply::Done => write!(f, "done"),
-            Reply::Number(n) => write!(f, "{n}"),
-            Reply::Exchanged(had) => write!(f, "{had}"),
-            Reply::Refused(fault) => {
-                let refusal = fault.refusal();
+            Ok(Reply::Done) => write!(f, "done"),
+            Ok(Reply::Number(n)) => write!(f, "{n}"),
+            Ok(Reply::Exchanged(had)) => write!(f, "{had}"),
+            Err(fault) => {
+                let refusal = Refusal::from(fault);
                 write!(f, "{refusal}: {fault}")
             }
         }
@@ -71,8 +72,7 @@ impl fmt::Display for Asked {
     ghost output = { λ a. Some (asked_text a) };
 
     fn fmt<W: fmt::Write>(&self, f: &mut fmt::Formatter<W>) -> fmt::Result {
-        let question = self.question;
-        let answer = self.answer;
+        let Asked { question, answer } = self;
         write!(f, "{question}: {answer}")
     }
 }

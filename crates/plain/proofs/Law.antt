@@ -1,19 +1,18 @@
 -- The calls that were granted suffice: alone they lead to the same end, each is granted again, and as bytes they are taken whole.
-use Rattle.std.proofs.Common.{◌≡◌, ℕ, ◌+◌, ◌*◌, ◌/◌, ◌%◌, ◌<◌, ◌≤◌, Bool, true, false, eqb, leb, List, [], ◌∷◌, length, get_or, Some, None, Ok, Err, Option, Result, sym, refl, ap, ◌∙◌, ⊎_elim, arith}
-use Rattle.std.proofs.lemmas.Bool.{cases_lt, lt-ltb, le-ltb, ne_eqb, cond-true, cond-false, and_parts, leb-true}
+use Rattle.std.proofs.Common.{◌≡◌, ℕ, ◌+◌, ◌*◌, ◌/◌, ◌%◌, ◌<◌, ◌≤◌, eqb, leb, List, [], ◌∷◌, length, get_or, Some, None, Ok, Err, Option, Result, sym, refl, ap, ◌∙◌, ⊎_elim, arith}
+use Rattle.std.proofs.lemmas.Bool.{cases_lt, lt-ltb, le-ltb, ne_eqb, cond-true, cond-false}
 use Rattle.model.specs.Action.{way_of}
 use Rattle.model.specs.Plain.{new_run, run_after, step, step_on, step_way, thread_of}
 use Rattle.model.specs.Runs.{Call, Suffice, GrantedSuffice, GrantedTaken, NewRuns, AllSteps, as_bytes, asked, granted, kept, at_index, byte_step, ran_on, ran_from}
-use Rattle.model.specs.Steps.{then}
-use Rattle.model.specs.Table.{Program, decode, demand, fetch, table_fault, header_fault, program_of, within}
+use Rattle.model.proofs.EncodedBack.{header_back}
+use Rattle.model.proofs.Reading.{passed, passed_demand}
+use Rattle.model.specs.Table.{Program, decode, fetch, table_fault, header_fault, program_of}
 use Rattle.model.specs.declared.code.Instruction.{Instruction}
 use Rattle.model.specs.declared.state.State.{State}
 use Rattle.model.specs.declared.faults.MachineFault.{MachineFault}
 use Rattle.model.specs.declared.faults.MachineFault.TheVariants.{NoThread}
 use Rattle.model.specs.declared.faults.StepsFault.{StepsFault}
-use Rattle.model.specs.declared.faults.TableFault.{TableFault}
 use Rattle.table.proofs.Fetch.{length_codes}
-use Rattle.plain.proofs.Steps.{byte_in}
 
 module _ (p : Program) (s : State) (c : Call) (cs : List Call) (ih : (t : State) → Suffice p t cs) where
   suffice_more : (r : Result State MachineFault) → step p s c.thread c.way ≡ r
@@ -55,6 +54,9 @@ module _ (p : Program) (s u : State) (t w : ℕ) (e : step p s t w ≡ Ok u) whe
       (λ past. absurd (lost_way p s u t w (fetch p t (thread_of s.threads t).place) (no_way past) (sym (cond-true _ _ _ (lt-ltb t (length p.code) (granted_thread p s u t w e))) ∙ e)))
       (cases_lt w 2)
 
+byte_in : (p : Program) (s : State) (i b : ℕ) → b < 8 → byte_step p s i b ≡ at_index i (step p s (b % 4) (b / 4))
+byte_in p s i b low = cond-true _ _ _ (lt-ltb b 8 low)
+
 module _ (p : Program) (few : length p.code ≤ 4) where
   byte_granted : (s u : State) (i t w : ℕ) → step p s t w ≡ Ok u → (t + 4 * w < 8) × (byte_step p s i (t + 4 * w) ≡ Ok u)
   byte_granted s u i t w e =
@@ -91,28 +93,15 @@ module _ (p : Program) (few : length p.code ≤ 4) where
   taken_from s i [] = (tt, refl)
   taken_from s i (c ∷ cs) = taken_more s i c cs (λ t j. taken_from t j cs) (step p s c.thread c.way) refl
 
-then_inv : {A B E : Type 0} (r : Result A E) (f : A → Result B E) (y : B) → then r f ≡ Ok y → (x : A) × (r ≡ Ok x) × (f x ≡ Ok y)
-then_inv (Ok x) f y e = (x, refl, e)
-then_inv (Err g) f y e = let z : ◌≡◌ {A = ℕ} 0 1 = cc in absurd (omega arith)
-
-demand_inv : (b : Bool) (f : TableFault) (x : Unit {0}) → demand b f ≡ Ok x → b ≡ true
-demand_inv true f x e = refl
-demand_inv false f x e = let z : ◌≡◌ {A = ℕ} 0 1 = cc in absurd (omega arith)
-
 -- a table has at most four threads
 few_threads : (bs : List ℕ) (p : Program) → decode bs ≡ Ok p → length p.code ≤ 4
 few_threads bs p e =
-    let whole = then_inv (table_fault bs) _ p e in
-    let long = then_inv (demand (leb 6 (length bs)) _) _ _ whole.1 in
-    let header = then_inv (header_fault bs) _ _ long.2 in
-    let edition = then_inv (demand (eqb (get_or bs 0 0) 1) _) _ _ header.1 in
-    let kind = then_inv (demand (leb (get_or bs 1 0) 1) _) _ _ edition.2 in
-    let threads = then_inv (demand (within 1 (get_or bs 2 0) 4) _) _ _ kind.2 in
-    let both = and_parts (leb 1 (get_or bs 2 0)) (leb (get_or bs 2 0) 4) (demand_inv (within 1 (get_or bs 2 0) 4) _ _ threads.1) in
-    let most : get_or bs 2 0 ≤ 4 = leb-true (get_or bs 2 0) 4 both.1 in
+    let whole = passed (table_fault bs) _ p e in
+    let long = passed_demand (leb 6 (length bs)) _ _ _ whole.1 in
+    let header = header_back bs (passed (header_fault bs) _ _ long.1).1 in
     let same : program_of bs ≡ p = cc whole.2 in
     let count : length p.code ≡ get_or bs 2 0 = sym (ap (λ (q : Program). length q.code) same) ∙ length_codes bs 0 (get_or bs 2 0) in
-    omega arith
+    omega (arith, header.threads)
 
 pub taken : GrantedTaken
 taken bs p e s cs = taken_from p (few_threads bs p e) s 0 cs

@@ -1,4 +1,1 @@
-mod Apart
 mod Law
-mod Past
-mod Steps

@@ -1,42 +1,43 @@
--- What one instruction does to a run.
-use Rattle.std.specs.Prelude.{ℕ, ◌+◌, Bool, true, false, cond, Some, None, Err, Option, Result, ◌==◌}
-use Rattle.model.specs.Action.{about, goes}
-use Rattle.model.specs.Plain.{performed, thread_of, with_thread, may_step, or_refused}
-use Rattle.model.specs.Table.{Program, placed}
+-- What an action of the code means, and which way a number names.
+use Rattle.std.specs.Prelude.{◌≡◌, ℕ, Some, None, Option, if◌then◌else◌, slice_set}
+use Rattle.model.specs.Action.{can_go, goes, way_of, stuck, quiet, reads, writes, fences, swaps, opens, shuts}
+use Rattle.model.specs.Action as model
 use Rattle.model.specs.declared.code.Instruction.{Instruction}
-use Rattle.model.specs.declared.faults.MachineFault.{MachineFault}
-use Rattle.model.specs.declared.faults.MachineFault.TheVariants.{Ended, NoWay, NotGranted}
 use Rattle.model.specs.declared.state.State.{State}
 use Rattle.model.specs.declared.state.Thread.{Thread}
 use Rattle.model.specs.declared.state.Way.{Way}
+use Rattle.plain.specs.declared.action.Action.{Action}
+use Rattle.plain.specs.declared.action.Effect.{Effect}
+use Rattle.plain.specs.declared.action.Effect.TheVariants.{Nothing, Take, Link, Read, Write, Fence, Swap, Open, Shut}
 
--- whether it is granted, and the run after it
-abbrev pub is_granted : Option State → Bool
-is_granted None = false
-is_granted (Some s) = true
+-- a register takes a value, and the thread goes to a place
+abbrev pub takes_to : Thread → ℕ → ℕ → ℕ → Thread
+takes_to th r v to = record { place = to; link = th.link; registers = slice_set th.registers r v }
 
-abbrev pub or_unchanged : State → Option State → State
-or_unchanged s None = s
-or_unchanged s (Some after) = after
+-- what the model calls an effect of a thread that goes to a place
+abbrev pub has_effect : Thread → Effect → ℕ → model.Action
+has_effect th Nothing to = quiet (goes th to)
+has_effect th (Take r v) to = quiet (takes_to th r v to)
+has_effect th (Link l) to = quiet (record { place = to; link = l; registers = th.registers })
+has_effect th (Read r x) to = reads x (λ v. takes_to th r v to)
+has_effect th (Write x v) to = writes x v (goes th to)
+has_effect th Fence to = fences (goes th to)
+has_effect th (Swap x e v) to = swaps x e v (goes th to)
+has_effect th (Open r v) to = opens (takes_to th r v to)
+has_effect th Shut to = shuts (goes th to)
 
-abbrev pub acted : State → ℕ → Instruction → Way → Option State
-acted s t i w = performed s t (about i w (thread_of s.threads t))
+abbrev pub meaning : Thread → Option Action → model.Action
+meaning th None = stuck
+meaning th (Some a) = has_effect th a.effect a.to
 
--- a thread goes to a place and links to the place after the one it left
-abbrev pub calls : Thread → ℕ → Thread
-calls th to = record { place = to; link = th.place + 1; registers = th.registers }
+-- nothing changed, since the run lacks what it needs
+abbrev pub IsUndone : State → State → Option State → Type 0
+IsUndone before after o = (o ≡ None) × (after ≡ before)
 
--- a PICK goes aside where no other thread holds the section
-abbrev pub aside_to : Program → State → ℕ → Option ℕ → Result State MachineFault
-aside_to p s t None = Err (NoWay (placed p.kind (thread_of s.threads t).place))
-aside_to p s t (Some to) =
-    or_refused
-    (cond (may_step s.holder t) (Some (with_thread s t (goes (thread_of s.threads t) to))) None)
-    (NotGranted (placed p.kind (thread_of s.threads t).place))
+-- a way that an instruction can go
+abbrev pub if_can_go : Instruction → Option Way → Option Way
+if_can_go i None = None
+if_can_go i (Some w) = if can_go i w then Some w else None
 
--- a step by any other way than to the next place with no other thread in the section
-abbrev pub apart : Program → State → ℕ → ℕ → Option (Option ℕ) → Result State MachineFault
-apart p s t w None = Err (Ended (placed p.kind (thread_of s.threads t).place))
-apart p s t w (Some a) =
-    cond (w == 0) (Err (NotGranted (placed p.kind (thread_of s.threads t).place)))
-    (cond (w == 1) (aside_to p s t a) (Err (NoWay (placed p.kind (thread_of s.threads t).place))))
+abbrev pub way_to : Instruction → ℕ → Option Way
+way_to i n = if_can_go i (way_of n)

@@ -1,5 +1,6 @@
 -- What a run of the plain machine runs and holds.
-use Rattle.std.specs.Prelude.{ℕ, Bool, true, false, cond, length, Some, None, Ok, Err, Option, Result, nat_lt, is_none, slice_index}
+use Rattle.std.specs.Prelude.{ℕ, Bool, if◌then◌else◌, length, None, Ok, Err, Option, Result, nat_lt, is_none, slice_index}
+use Rattle.std.specs.Bool.{then_some}
 use Rattle.model.specs.Action.{register}
 use Rattle.model.specs.Plain.{thread_of}
 use Rattle.model.specs.Table.{Program, fetch, placed}
@@ -17,36 +18,32 @@ abbrev pub begun : Result Run TableFault → Result Program TableFault
 begun (Ok r) = Ok (runs r)
 begun (Err f) = Err f
 
--- an answer where the test holds
-abbrev pub given : {A : Type 0} → Bool → A → Option A
-given true x = Some x
-given false x = None
-
 abbrev pub has_thread : Run → ℕ → Bool
 has_thread r t = nat_lt t (length (runs r).code)
 
 abbrev pub thread_at : Run → ℕ → Thread
 thread_at r t = thread_of r.state.threads t
 
+-- the thread, where the table has it
+abbrev pub thread_asked : Run → ℕ → Option Thread
+thread_asked r t = then_some (has_thread r t) (thread_at r t)
+
 -- the instruction that a thread is at
-abbrev pub next_of : Run → ℕ → Option Instruction
-next_of r t = fetch (runs r) t (thread_at r t).place
+abbrev pub instruction_at_hand : Run → ℕ → Option Instruction
+instruction_at_hand r t = fetch (runs r) t (thread_at r t).place
 
 abbrev pub word_at : Run → ℕ → Option ℕ
-word_at r x = given (nat_lt x (runs r).words) (slice_index r.state.words x)
+word_at r x = then_some (nat_lt x (runs r).words) (slice_index r.state.words x)
 
 abbrev pub place_at : Run → ℕ → Option Place
-place_at r t = given (has_thread r t) (placed (runs r).kind (thread_at r t).place)
+place_at r t = then_some (has_thread r t) (placed (runs r).kind (thread_at r t).place)
 
 abbrev pub link_at : Run → ℕ → Option Place
-link_at r t = given (has_thread r t) (placed (runs r).kind (thread_at r t).link)
+link_at r t = then_some (has_thread r t) (placed (runs r).kind (thread_at r t).link)
 
 abbrev pub register_at : Run → ℕ → ℕ → Option ℕ
 register_at r t n =
-    cond (has_thread r t) (given (nat_lt n (runs r).registers) (register (thread_at r t) n)) None
+    if has_thread r t then then_some (nat_lt n (runs r).registers) (register (thread_at r t) n) else None
 
 abbrev pub has_ended : Run → ℕ → Option Bool
-has_ended r t = given (has_thread r t) (is_none (next_of r t))
-
-abbrev pub instruction_at_hand : Run → ℕ → Option Instruction
-instruction_at_hand r t = fetch (runs r) t (thread_at r t).place
+has_ended r t = then_some (has_thread r t) (is_none (instruction_at_hand r t))

@@ -2,9 +2,10 @@
 
 #![tactic(auto)]
 
-mod acts;
+mod action;
 mod cells;
 pub mod laws;
+mod performing;
 mod queries;
 pub mod run;
 mod stepping;

@@ -1,17 +1,18 @@
 //! Beginning a run, and its steps.
-ghost use Rattle.std.specs.Prelude.{◌≡◌, true, IfOk};
-ghost use Rattle.std.specs.Option.{option_map};
-ghost use Rattle.model.specs.Plain.{new_run, step as step_by_way, step_on, may_step, answer_of, run_after};
+ghost use Rattle.std.specs.Prelude.{◌≡◌, IfOk};
+ghost use Rattle.model.specs.Plain.{new_run, step as step_by_way, answer_of, run_after};
 ghost use Rattle.model.specs.Runs.{byte_step, ran_from};
-ghost use Rattle.model.specs.Table.{decode, aside_of};
+ghost use Rattle.model.specs.Table.{decode};
 ghost use Rattle.table.specs.Said.{said};
-ghost use Rattle.plain.specs.Acts.{apart};
-ghost use Rattle.plain.specs.Said.{begun, next_of, runs};
+ghost use Rattle.plain.specs.Acts.{way_to};
+ghost use Rattle.plain.specs.Said.{begun, runs};
 
 use crate::run::Run;
-use crate::{acts, cells};
+use crate::{action, performing};
+use model::code::Instruction;
 use model::faults::{MachineFault, StepsFault, TableFault};
-use model::state::{State, Thread};
+use model::numbers::require;
+use model::state::{State, Thread, Way};
 use table::view::Table;
 
 fn new_state() -> State
@@ -26,6 +27,17 @@ fn new_state() -> State
         words: [0; 8],
         threads: [thread; 4],
         holder: None,
+    }
+}
+
+/// The way that a number names, if the instruction can go that way: only PICK goes aside.
+fn way_to(instruction: Instruction, number: u8) -> Option<Way>
+    ensures { result ≡ way_to instruction number }
+{
+    match (Way::try_from(number), instruction) {
+        (Ok(Way::Next), _) => Some(Way::Next),
+        (Ok(Way::Aside), Instruction::Pick { .. }) => Some(Way::Aside),
+        _ => None,
     }
 }
 
@@ -48,61 +60,27 @@ impl<'a> Run<'a> {
         Ok(Run::of(table))
     }
 
-    /// A step to the next place, with no other thread in the section.
-    fn step_next(&mut self, thread: u8) -> Result<(), MachineFault>
-        requires { may_step self.old.state.holder thread ≡ true }
-        ensures answer { result ≡ answer_of (step_on (runs self.old) self.old.state thread 0 (next_of self.old thread)) }
-        ensures after { self.new.state ≡ run_after self.old.state (step_on (runs self.old) self.old.state thread 0 (next_of self.old thread)) }
-        ensures table { runs self.new ≡ runs self.old }
-    {
-        let at = cells::place(&self.state.threads, thread);
-        let Some(instruction) = self.table.instruction(thread, at) else {
-            let place = self.table.place(at);
-            return Err(MachineFault::Ended { place });
-        };
-        if acts::act(&mut self.state, thread, instruction) {
-            return Ok(());
-        }
-        let place = self.table.place(at);
-        Err(MachineFault::NotGranted { place })
-    }
-
-    /// A step aside, where only a PICK can go, or one that another thread's section forbids.
-    fn step_apart(&mut self, thread: u8, way: u8) -> Result<(), MachineFault>
-        ensures answer { result ≡ answer_of (apart (runs self.old) self.old.state thread way (option_map aside_of (next_of self.old thread))) }
-        ensures after { self.new.state ≡ run_after self.old.state (apart (runs self.old) self.old.state thread way (option_map aside_of (next_of self.old thread))) }
-        ensures table { runs self.new ≡ runs self.old }
-    {
-        let at = cells::place(&self.state.threads, thread);
-        let place = self.table.place(at);
-        match (way, self.table.aside(thread, at)) {
-            (_, None) => Err(MachineFault::Ended { place }),
-            (0, Some(_)) => Err(MachineFault::NotGranted { place }),
-            (1, Some(Some(target))) => {
-                if acts::is_free(self.state.holder, thread) {
-                    cells::go(&mut self.state.threads, thread, target);
-                    Ok(())
-                } else {
-                    Err(MachineFault::NotGranted { place })
-                }
-            }
-            (_, Some(_)) => Err(MachineFault::NoWay { place }),
-        }
-    }
-
-    /// One step of a thread by a way.
+    /// One step of a thread by a way: 0 on to the next place, 1 aside; any other number is refused, so it is no `Way` yet.
     pub fn step(&mut self, thread: u8, way: u8) -> Result<(), MachineFault>
         ensures answer { result ≡ answer_of (step_by_way (runs self.old) self.old.state thread way) }
         ensures after { self.new.state ≡ run_after self.old.state (step_by_way (runs self.old) self.old.state thread way) }
         ensures table { runs self.new ≡ runs self.old }
     {
-        if thread >= self.table.threads() {
-            Err(MachineFault::NoThread { thread })
-        } else if way == 0 && acts::is_free(self.state.holder, thread) {
-            self.step_next(thread)
-        } else {
-            self.step_apart(thread, way)
-        }
+        let table = self.table;
+        let holder = self.state.holder;
+        let Some(own) = self.thread(thread) else {
+            return Err(MachineFault::NoThread { thread });
+        };
+        let place = table.place(own.place);
+        let instruction = table
+            .instruction(thread, own.place)
+            .ok_or(MachineFault::Ended { place })?;
+        let way = way_to(instruction, way).ok_or(MachineFault::NoWay { place })?;
+        let refused = MachineFault::NotGranted { place };
+        let free = holder.is_none_or(|holder| holder == thread);
+        let action = action::intent(own, free, instruction, way).ok_or(refused)?;
+        performing::perform(&mut self.state, thread, action).ok_or(refused)?;
+        Ok(())
     }
 
     /// The step that a byte asks for: thread + 4 × way.
@@ -111,13 +89,9 @@ impl<'a> Run<'a> {
         ensures after { self.new.state ≡ run_after self.old.state (byte_step (runs self.old) self.old.state index byte) }
         ensures table { runs self.new ≡ runs self.old }
     {
-        if byte >= 8 {
-            return Err(StepsFault::Byte { index });
-        }
-        match self.step(byte % 4, byte / 4) {
-            Ok(()) => Ok(()),
-            Err(fault) => Err(StepsFault::Step { index, fault }),
-        }
+        require(byte < 8, StepsFault::Byte { index })?;
+        self.step(byte % 4, byte / 4)
+            .map_err(|fault| StepsFault::Step { index, fault })
     }
 
     /// Takes the steps of a list one after another, up to the first refusal; what was granted before it stands.

@@ -4,13 +4,13 @@
 
 #[cfg(test)]
 mod tests {
-    use model::faults::{MachineFault, StepsFault, TableFault};
-    use model::places::Place;
+    use model::faults::{MachineFault, Refusal, StepsFault, TableFault};
+    use model::places::{Place, SourcePlace};
     use plain::run::Run;
     use std::process::Abort;
     use std::test::Fail;
 
-    // Every op once, along a way where each is granted.
+    /// Every op once, along a way where each is granted.
     const EVERY_OP: [u8; 142] = [
         1, 1, 1, 2, 4, 1, // header
         10, 0, 22, 0, // thread 0
@@ -38,7 +38,7 @@ mod tests {
         3, 3, 0, 0, 0, 0, // INC 3 0
     ];
 
-    // Each thread comes to an instruction that lacks what it needs.
+    /// Each thread comes to an instruction that lacks what it needs.
     const STUCK: [u8; 58] = [
         1, 1, 4, 1, 2, 1, // header
         22, 0, 2, 0, // thread 0
@@ -53,7 +53,7 @@ mod tests {
         14, 0, 0, 0, 0, 0, // SHUT 0
     ];
 
-    // A section, and a thread beside it.
+    /// A section, and a thread beside it.
     const SECTION: [u8; 50] = [
         1, 1, 2, 1, 1, 1, // header
         14, 0, 4, 0, // thread 0
@@ -66,7 +66,7 @@ mod tests {
         3, 0, 0, 1, 0, 0, // INC 0 1
     ];
 
-    // A thread that ends in its section, and one that goes back before any call.
+    /// A thread that ends in its section, and one that goes back before any call.
     const INSIDE: [u8; 32] = [
         1, 1, 2, 1, 1, 1, // header
         14, 0, 1, 0, // thread 0
@@ -76,7 +76,7 @@ mod tests {
         16, 0, 0, 0, 0, 0, // BACK
     ];
 
-    // A source table whose tests all fail.
+    /// A source table whose tests all fail.
     const SOURCE: [u8; 34] = [
         1, 0, 1, 1, 2, 0, // header
         10, 0, 4, 0, // thread 0
@@ -86,41 +86,27 @@ mod tests {
         8, 0, 1, 0, 0, 0, // WAIT 0 1
     ];
 
-    // Asks steps, each by its thread and way, and compares the numbers and places of the refusals; 0 and 0 is granted.
-    fn ask(rt: &impl Abort, run: &mut Run, rows: &[(u8, u8, u8, usize)]) {
-        ask_noting(rt, run, rows, "step");
-    }
-
-    // The same with a note on what is tried.
-    fn ask_noting(rt: &impl Abort, run: &mut Run, rows: &[(u8, u8, u8, usize)], note: &str) {
-        for &(thread, way, number, place) in rows {
-            match run.step(thread, way) {
-                Ok(()) => assert_eq!(rt; (number, place), (0, 0), "{note}"),
-                Err(fault) => {
-                    let refusal = fault.refusal();
-                    assert_eq!(rt; (number, place), (refusal.number, refusal.place), "{note}")
-                }
-            }
+    /// Asks steps, each by its thread and way, and compares the numbers and places of the refusals, since those are the
+    /// published ones.
+    fn ask(rt: &impl Abort, run: &mut Run, rows: &[(u8, u8, Result<(), (u8, usize)>)]) {
+        for &(thread, way, expected) in rows {
+            let told = run.step(thread, way).map_err(|fault| {
+                let refusal = Refusal::from(fault);
+                (refusal.number, refusal.place)
+            });
+            assert_eq!(rt; told, expected, "thread {thread}, way {way}");
         }
     }
 
     fn begun(bytes: &[u8]) -> Result<Run, Fail> {
-        match Run::new(bytes) {
-            Ok(run) => Ok(run),
-            Err(_) => Err(Fail::new("no table")),
-        }
+        Run::new(bytes).map_err(|_| Fail::new("no table"))
     }
 
     fn four(run: &Run) -> [Option<u8>; 4] {
-        [
-            run.register(0, 0),
-            run.register(0, 1),
-            run.register(0, 2),
-            run.register(0, 3),
-        ]
+        std::array::from_fn(|r| run.register(0, r as u8))
     }
 
-    // The place of a thread of a translated table.
+    /// The place of a thread of a translated table.
     fn at(place: Option<Place>) -> Option<u16> {
         match place {
             Some(Place::Translated(p)) => Some(p.0),
@@ -143,7 +129,11 @@ mod tests {
         ask(
             &rt,
             &mut run,
-            &[(0, 0, 11, 22), (0, 9, 11, 22), (1, 0, 9, 1)],
+            &[
+                (0, 0, Err((11, 22))),
+                (0, 9, Err((11, 22))),
+                (1, 0, Err((9, 1))),
+            ],
         );
         Ok(())
     }
@@ -151,18 +141,19 @@ mod tests {
     #[test]
     fn a_step_lacks_what_it_needs(rt: HostRuntime) -> Result<(), Fail> {
         let mut run = begun(&STUCK)?;
-        let granted = [(0, 0, 0, 0), (1, 0, 0, 0)];
+        let granted = [(0, 0, Ok(())), (1, 0, Ok(()))];
         ask(&rt, &mut run, &granted);
         let refused = [
-            (0, 0, 11, 1),
-            (0, 1, 10, 1),
-            (0, 2, 10, 1),
-            (1, 0, 11, 1),
-            (2, 0, 11, 0),
-            (3, 0, 11, 0),
+            (0, 0, Err((11, 1))),
+            (0, 1, Err((10, 1))),
+            (0, 2, Err((10, 1))),
+            (1, 0, Err((11, 1))),
+            (2, 0, Err((11, 0))),
+            (3, 0, Err((11, 0))),
         ];
         ask(&rt, &mut run, &refused);
-        ask_noting(&rt, &mut run, &refused, "a refusal changes nothing");
+        // A refusal changes nothing.
+        ask(&rt, &mut run, &refused);
         assert_eq!(rt; run.word(0), Some(0));
         assert_eq!(rt; run.holder(), None);
         Ok(())
@@ -174,17 +165,31 @@ mod tests {
         ask(
             &rt,
             &mut run,
-            &[(0, 0, 0, 0), (1, 0, 11, 0), (1, 1, 11, 0), (1, 2, 10, 0)],
+            &[
+                (0, 0, Ok(())),
+                (1, 0, Err((11, 0))),
+                (1, 1, Err((11, 0))),
+                (1, 2, Err((10, 0))),
+            ],
         );
         assert_eq!(rt; run.holder(), Some(0));
         ask(
             &rt,
             &mut run,
-            &[(0, 1, 0, 0), (0, 0, 0, 0), (1, 1, 0, 0), (1, 0, 0, 0)],
+            &[
+                (0, 1, Ok(())),
+                (0, 0, Ok(())),
+                (1, 1, Ok(())),
+                (1, 0, Ok(())),
+            ],
         );
         assert_eq!(rt; run.holder(), None);
         assert_eq!(rt; run.register(1, 0), Some(1));
-        ask(&rt, &mut run, &[(0, 0, 0, 0), (0, 0, 0, 0), (0, 0, 11, 2)]);
+        ask(
+            &rt,
+            &mut run,
+            &[(0, 0, Ok(())), (0, 0, Ok(())), (0, 0, Err((11, 2)))],
+        );
         assert_eq!(rt; run.register(0, 0), Some(2));
         Ok(())
     }
@@ -192,13 +197,21 @@ mod tests {
     #[test]
     fn a_thread_ends_inside(rt: HostRuntime) -> Result<(), Fail> {
         let mut run = begun(&INSIDE)?;
-        ask(&rt, &mut run, &[(1, 0, 0, 0), (1, 0, 0, 0), (1, 0, 0, 0)]);
+        ask(
+            &rt,
+            &mut run,
+            &[(1, 0, Ok(())), (1, 0, Ok(())), (1, 0, Ok(()))],
+        );
         assert_eq!(rt;
             run.register(1, 0),
             Some(2),
             "BACK before any CALL goes to 0"
         );
-        ask(&rt, &mut run, &[(0, 0, 0, 0), (1, 0, 11, 1), (0, 0, 11, 1)]);
+        ask(
+            &rt,
+            &mut run,
+            &[(0, 0, Ok(())), (1, 0, Err((11, 1))), (0, 0, Err((11, 1)))],
+        );
         assert_eq!(rt; run.ended(0), Some(true));
         Ok(())
     }
@@ -208,44 +221,33 @@ mod tests {
         let mut bytes = [0; 8410];
         bytes[0..16].copy_from_slice(&[1, 1, 1, 1, 1, 1, 10, 0, 120, 5, 4, 0, 0, 0, 119, 5]);
         let mut run = begun(&bytes)?;
-        ask(&rt, &mut run, &[(0, 0, 0, 0)]);
+        ask(&rt, &mut run, &[(0, 0, Ok(()))]);
         assert_eq!(rt; at(run.place(0)), Some(1399));
-        ask(&rt, &mut run, &[(0, 0, 0, 0), (0, 0, 11, 1400)]);
+        ask(&rt, &mut run, &[(0, 0, Ok(())), (0, 0, Err((11, 1400)))]);
         Ok(())
     }
 
     #[test]
     fn a_list_stops_at_its_first_refusal(rt: HostRuntime) -> Result<(), Fail> {
         let mut run = begun(&SOURCE)?;
-        let Err(StepsFault::Byte { index }) = run.steps(&[0, 8, 0]) else {
-            return Err(Fail::new("8 is no step"));
-        };
-        assert_eq!(rt; index, 1);
-        let Err(
-            StepsFault::Step {
-                index,
-                fault: MachineFault::NotGranted {
-                    place: Place::Source(place),
-                },
-            },
-        ) = run.steps(&[0, 0, 0, 0])
-        else {
-            return Err(Fail::new("WAIT is not granted"));
-        };
-        assert_eq!(rt; (index, place.0), (2, 3));
+        assert!(rt;
+            run.steps(&[0, 8, 0]) == Err(StepsFault::Byte { index: 1 }),
+            "8 is no step"
+        );
+        let place = Place::Source(SourcePlace(3));
+        let fault = MachineFault::NotGranted { place };
+        assert!(rt;
+            run.steps(&[0, 0, 0, 0]) == Err(StepsFault::Step { index: 2, fault }),
+            "WAIT is not granted"
+        );
         assert_eq!(rt; four(&run), [Some(7), Some(0), None, None]);
         assert_eq!(rt; run.ended(0), Some(false));
         Ok(())
     }
 
     #[test]
-    fn no_table_no_run(rt: HostRuntime) -> Result<(), Fail> {
-        match Run::new(&[1, 0]) {
-            Err(TableFault::Length { length }) => {
-                assert_eq!(rt; length, 2);
-                Ok(())
-            },
-            _ => Err(Fail::new("two bytes are no table")),
-        }
+    fn no_table_no_run(rt: HostRuntime) {
+        let fault = Run::new(&[1, 0]).err();
+        assert!(rt; fault == Some(TableFault::Length { length: 2 }));
     }
 }

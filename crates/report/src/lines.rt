@@ -1,4 +1,5 @@
-//! The lines that are printed of a table, each by its parts.
+//! The lines that are printed of a table, each by its parts. Each `Display` is written out, since a derived one promises
+//! nothing of its text.
 ghost use Rattle.report.specs.Text.{field_text, entry_text, listed_text, accepted_text};
 ghost use Rattle.std.specs.Prelude.{Some};
 
@@ -6,7 +7,7 @@ use model::code::{Instruction, Kind};
 use std::fmt;
 
 /// A field of the header: its byte, its name, what it holds and what that means.
-#[derive(Clone, Copy)]
+#[derive(Clone, Copy, PartialEq, Eq)]
 pub struct Field {
     pub at: u8,
     pub name: &'static str,
@@ -15,7 +16,7 @@ pub struct Field {
 }
 
 /// A thread's entry: the byte where it stands, where the thread's code begins, how many instructions it has.
-#[derive(Clone, Copy)]
+#[derive(Clone, Copy, PartialEq, Eq)]
 pub struct Entry {
     pub at: usize,
     pub thread: u8,
@@ -24,7 +25,7 @@ pub struct Entry {
 }
 
 /// An instruction, with the byte where it stands, its thread and its place in the thread's code.
-#[derive(Clone, Copy)]
+#[derive(Clone, Copy, PartialEq, Eq)]
 pub struct Listed {
     pub at: usize,
     pub thread: u8,
@@ -33,7 +34,7 @@ pub struct Listed {
 }
 
 /// The verdict on a table that was read.
-#[derive(Clone, Copy)]
+#[derive(Clone, Copy, PartialEq, Eq)]
 pub struct Accepted {
     pub kind: Kind,
 }
@@ -42,11 +43,11 @@ impl fmt::Display for Field {
     ghost output = { λ x. Some (field_text x) };
 
     fn fmt<W: fmt::Write>(&self, f: &mut fmt::Formatter<W>) -> fmt::Result {
-        let at = self.at;
-        let name = self.name;
-        let value = self.value;
-        let meaning = self.meaning;
-        write!(f, "byte {at}, {name}: {value} ({meaning})")
+        write!(
+            f,
+            "byte {}, {}: {} ({})",
+            self.at, self.name, self.value, self.meaning
+        )
     }
 }
 
@@ -54,13 +55,10 @@ impl fmt::Display for Entry {
     ghost output = { λ x. Some (entry_text x) };
 
     fn fmt<W: fmt::Write>(&self, f: &mut fmt::Formatter<W>) -> fmt::Result {
-        let at = self.at;
-        let thread = self.thread;
-        let position = self.position;
-        let count = self.count;
         write!(
             f,
-            "byte {at}, thread {thread}: code at byte {position}, instruction count {count}"
+            "byte {}, thread {}: code at byte {}, instruction count {}",
+            self.at, self.thread, self.position, self.count
         )
     }
 }
@@ -69,13 +67,10 @@ impl fmt::Display for Listed {
     ghost output = { λ x. Some (listed_text x) };
 
     fn fmt<W: fmt::Write>(&self, f: &mut fmt::Formatter<W>) -> fmt::Result {
-        let at = self.at;
-        let thread = self.thread;
-        let place = self.place;
-        let instruction = self.instruction;
         write!(
             f,
-            "byte {at}, thread {thread}, place {place}: {instruction}"
+            "byte {}, thread {}, place {}: {}",
+            self.at, self.thread, self.place, self.instruction
         )
     }
 }
@@ -84,10 +79,10 @@ impl fmt::Display for Accepted {
     ghost output = { λ x. Some (accepted_text x) };
 
     fn fmt<W: fmt::Write>(&self, f: &mut fmt::Formatter<W>) -> fmt::Result {
-        let kind = self.kind;
         write!(
             f,
-            "accepted: every byte of this {kind} table is in its range"
+            "accepted: every byte of this {} table is in its range",
+            self.kind
         )
     }
 }

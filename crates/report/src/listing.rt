@@ -10,30 +10,28 @@ use table::view::Table;
 pub fn entry(table: &Table, thread: u8) -> Option<Entry>
     ensures { result ≡ entry_of table.now thread }
 {
-    match (table.position(thread), table.count(thread)) {
-        (Some(position), Some(count)) => Some(Entry {
-            at: 6 + 4 * thread as usize,
-            thread,
-            position,
-            count,
-        }),
-        _ => None,
-    }
+    let position = table.position(thread)?;
+    let count = table.count(thread)?;
+    Some(Entry {
+        at: 6 + 4 * thread as usize,
+        thread,
+        position,
+        count,
+    })
 }
 
 /// The instruction of a thread at a place; none past the end, or where there is no such thread.
 pub fn instruction(table: &Table, thread: u8, place: u16) -> Option<Listed>
     ensures { result ≡ listed_of table.now thread place }
 {
-    match (table.position(thread), table.instruction(thread, place)) {
-        (Some(start), Some(instruction)) => Some(Listed {
-            at: start as usize + 6 * place as usize,
-            thread,
-            place,
-            instruction,
-        }),
-        _ => None,
-    }
+    let start = table.position(thread)?;
+    let instruction = table.instruction(thread, place)?;
+    Some(Listed {
+        at: start as usize + 6 * place as usize,
+        thread,
+        place,
+        instruction,
+    })
 }
 
 /// The verdict on a table that was read.

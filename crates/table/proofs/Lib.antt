@@ -1,2 +1,5 @@
+mod Chunks
+mod Entries
 pub mod Fetch
-mod Walk
+mod Fours
+mod Sixes

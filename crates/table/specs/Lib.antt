@@ -1,3 +1,7 @@
-pub mod Entries
-pub mod Lookup
+pub mod Fields
+pub mod Fours
+pub mod Layout
+pub mod Ranges
 pub mod Said
+pub mod Sixes
+pub mod Threads

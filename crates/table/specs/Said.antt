@@ -1,8 +1,7 @@
 -- What a checked table says.
-use Rattle.std.specs.Prelude.{ℕ, Ok, Err, Option, Result}
-use Rattle.model.specs.Table.{Program, program_of}
+use Rattle.std.specs.Prelude.{ℕ, if◌then◌else◌, Some, None, Ok, Err, Option, Result, nat_lt, slice_index}
+use Rattle.model.specs.Table.{Program, position, program_of}
 use Rattle.model.specs.declared.faults.TableFault.{TableFault}
-use Rattle.table.specs.Lookup.{found_position}
 use Rattle.table.specs.declared.view.Table.{Table}
 
 abbrev pub said : Table → Program
@@ -14,4 +13,5 @@ answered (Err f) = Err f
 
 -- the position of a thread's code: none of a thread that the table lacks
 abbrev pub begins : Table → ℕ → Option ℕ
-begins t thread = found_position t.bytes.now thread
+begins t thread =
+    if nat_lt thread (slice_index t.bytes.now 2) then Some (position t.bytes.now thread) else None

@@ -3,7 +3,8 @@
 #![tactic(auto)]
 
 mod fields;
-mod lookup;
+mod layout;
 mod queries;
+mod ranges;
 mod reader;
 pub mod view;

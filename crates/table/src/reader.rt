@@ -1,182 +1,106 @@
 //! Checking a table: the first fault in the order of the format, or none.
-ghost use Rattle.std.specs.Prelude.{◌≡◌, ◌+◌, ◌*◌, ◌^◌, ◌<◌, ◌≤◌, length, slice_index};
-ghost use Rattle.model.specs.Table.{count as thread_count, position as thread_position, limits as thread_limits, kind_of, within as between, ops as op_count, most_registers as register_limit, least_rounds as round_least, most_rounds as round_limit, most_instructions as instruction_limit, entry_at as entry_place, entry_fault, header_fault, entries_end, code_fault, thread_fault, codes_fault, table_fault};
+ghost use Rattle.std.specs.Prelude.{◌≡◌, ◌+◌, ◌*◌, ◌&&◌, ◌==◌, ◌<◌, ◌≤◌, ◌^◌, Ok, length, slice_index};
+ghost use Rattle.model.specs.Steps.{and_then, demand};
+ghost use Rattle.model.specs.Table.{kind_of, entry_at, most_instructions, header_fault, entries_end, thread_fault, codes_fault, table_fault, within};
+ghost use Rattle.model.specs.declared.faults.TableFault.TheVariants.{Header, Entry as EntryFault};
+ghost use Rattle.table.specs.Fours.{fours_end};
+ghost use Rattle.table.specs.Sixes.{sixes_fault};
 
-use crate::fields::{byte, check_instruction, pair, require};
+use crate::fields::check_instruction;
+use crate::layout::{Entry, Layout};
+use crate::ranges::Ranges;
 use model::code::{Kind, Limits};
 use model::faults::TableFault;
+use model::numbers::require;
 
-fn within(low: u16, n: u16, high: u16) -> bool
-    ensures { result ≡ between low n high }
+/// Checks that a byte of the header is in its range.
+fn check_range(at: usize, low: u8, n: u8, high: u8) -> Result<(), TableFault>
+    ensures { result ≡ demand (within low n high) (Header at) }
 {
-    low <= n && n <= high
+    require((low..=high).contains(&n), TableFault::Header { at })
 }
 
-pub(crate) fn kind(bytes: &[u8]) -> Kind
-    ensures { result ≡ kind_of (slice_index bytes.now 1) }
+/// Checks the header, and gives the kind that it names.
+fn check_header(header: [u8; 6]) -> Result<Kind, TableFault>
+    ensures { result ≡ and_then (header_fault header) (λ _. Ok (kind_of (slice_index header 1))) }
 {
-    if byte(bytes, 1) == 0 {
-        Kind::Source
-    } else {
-        Kind::Translated
-    }
+    let [edition, kind, threads, words, registers, rounds] = header;
+    require(edition == 1, TableFault::Header { at: 0 })?;
+    let kind = Kind::try_from(kind).map_err(|_| TableFault::Header { at: 1 })?;
+    let ranges = Ranges::of(kind);
+    check_range(2, 1, threads, 4)?;
+    check_range(3, 1, words, 8)?;
+    check_range(4, 1, registers, ranges.registers)?;
+    check_range(5, ranges.least_rounds, rounds, ranges.most_rounds)?;
+    Ok(kind)
 }
 
-fn ops(kind: Kind) -> u8
-    ensures { result ≡ op_count kind }
+/// Checks a thread's entry: where its code has to begin, and how many instructions it may have.
+fn check_entry(kind: Kind, thread: usize, entry: Entry, at: usize) -> Result<(), TableFault>
+    requires { thread < 2 ^ 32 }
+    ensures { result ≡ demand (entry.position == at && within 1 entry.count (most_instructions kind)) (EntryFault (entry_at thread)) }
 {
-    match kind {
-        Kind::Source => 13,
-        Kind::Translated => 17,
-    }
-}
-
-fn most_registers(kind: Kind) -> u16
-    ensures { result ≡ register_limit kind }
-{
-    match kind {
-        Kind::Source => 16,
-        Kind::Translated => 82,
-    }
-}
-
-fn least_rounds(kind: Kind) -> u16
-    ensures { result ≡ round_least kind }
-{
-    match kind {
-        Kind::Source => 0,
-        Kind::Translated => 1,
-    }
-}
-
-fn most_rounds(kind: Kind) -> u16
-    ensures { result ≡ round_limit kind }
-{
-    match kind {
-        Kind::Source => 0,
-        Kind::Translated => 4,
-    }
-}
-
-fn most_instructions(kind: Kind) -> u16
-    ensures { result ≡ instruction_limit kind }
-{
-    match kind {
-        Kind::Source => 48,
-        Kind::Translated => 1400,
-    }
-}
-
-fn check_header(bytes: &[u8]) -> Result<(), TableFault>
-    ensures { result ≡ header_fault bytes.now }
-{
-    let kind = kind(bytes);
-    require(byte(bytes, 0) == 1, TableFault::Header { at: 0 })?;
-    require(byte(bytes, 1) <= 1, TableFault::Header { at: 1 })?;
+    let most = Ranges::of(kind).instructions;
     require(
-        within(1, byte(bytes, 2) as u16, 4),
-        TableFault::Header { at: 2 },
-    )?;
-    require(
-        within(1, byte(bytes, 3) as u16, 8),
-        TableFault::Header { at: 3 },
-    )?;
-    require(
-        within(1, byte(bytes, 4) as u16, most_registers(kind)),
-        TableFault::Header { at: 4 },
-    )?;
-    require(
-        within(least_rounds(kind), byte(bytes, 5) as u16, most_rounds(kind)),
-        TableFault::Header { at: 5 },
+        entry.position as usize == at && (1..=most).contains(&entry.count),
+        TableFault::Entry { at: 6 + 4 * thread },
     )
 }
 
-pub(crate) fn entry_at(thread: u8) -> usize
-    ensures { result ≡ entry_place thread }
+/// The end of the code that entries name, or their first fault.
+fn end_of_code(kind: Kind, entries: &[[u8; 4]]) -> Result<usize, TableFault>
+    requires { length entries.now < 2 ^ 8 }
+    ensures { result ≡ fours_end kind 0 (6 + 4 * length entries.now) entries.now }
 {
-    6 + 4 * thread as usize
-}
-
-/// Where the code of a thread begins.
-pub(crate) fn position(bytes: &[u8], thread: u8) -> u16
-    ensures { result ≡ thread_position bytes.now thread }
-{
-    pair(bytes, entry_at(thread))
-}
-
-/// How many instructions a thread has.
-pub(crate) fn count(bytes: &[u8], thread: u8) -> u16
-    ensures { result ≡ thread_count bytes.now thread }
-{
-    pair(bytes, entry_at(thread) + 2)
-}
-
-pub(crate) fn limits(bytes: &[u8], thread: u8) -> Limits
-    ensures { result ≡ thread_limits bytes.now thread }
-{
-    let ops = ops(kind(bytes));
-    let registers = byte(bytes, 4);
-    let words = byte(bytes, 3);
-    let count = count(bytes, thread);
-    Limits {
-        ops,
-        registers,
-        words,
-        count,
-    }
-}
-
-fn check_entry(bytes: &[u8], kind: Kind, thread: u8, at: usize) -> Result<(), TableFault>
-    ensures { result ≡ entry_fault kind bytes.now thread at }
-{
-    let placed = position(bytes, thread) as usize == at;
-    let counted = within(1, count(bytes, thread), most_instructions(kind));
-    require(
-        placed && counted,
-        TableFault::Entry {
-            at: entry_at(thread),
-        },
-    )
-}
-
-/// Checks the entries, and gives the end of the code that they name.
-fn end_of_code(bytes: &[u8], kind: Kind, threads: u8) -> Result<usize, TableFault>
-    ensures { result ≡ entries_end kind bytes.now 0 (6 + 4 * threads) threads }
-{
-    let mut at = 6 + 4 * threads as usize;
-    for thread in 0..threads {
-        check_entry(bytes, kind, thread, at)?;
-        at += 6 * count(bytes, thread) as usize;
+    let mut at = 6 + 4 * entries.len();
+    for (thread, four) in entries.iter().enumerate() {
+        let entry = Entry::from(*four);
+        check_entry(kind, thread, entry, at)?;
+        at += 6 * entry.count as usize;
     }
     Ok(at)
 }
 
-/// Checks a thread's instructions one after another.
-fn check_code(bytes: &[u8], limits: Limits, start: u16, count: u16) -> Result<(), TableFault>
-    ensures { result ≡ code_fault limits bytes.now start count }
+/// Checks the entries of a table, and gives the end of the code that they name.
+#[tactic(auto, using(crate::proofs::Fours::entries_of_part))]
+fn check_entries(bytes: &[u8], kind: Kind, threads: u8) -> Result<usize, TableFault>
+    requires { 6 + 4 * threads ≤ length bytes.now }
+    ensures { result ≡ entries_end kind bytes.now 0 (6 + 4 * threads) threads }
 {
-    for place in 0..count {
-        check_instruction(limits, bytes, start as usize + 6 * place as usize)?;
+    let (entries, _) = bytes[6..6 + 4 * threads as usize].as_chunks::<4>();
+    end_of_code(kind, entries)
+}
+
+/// Checks a thread's instructions one after another.
+fn check_code(limits: Limits, start: u16, code: &[[u8; 6]]) -> Result<(), TableFault>
+    requires few { length code.now < 2 ^ 16 }
+    requires ops { limits.ops ≤ 17 }
+    ensures { result ≡ sixes_fault limits start 0 code.now }
+{
+    for (index, six) in code.iter().enumerate() {
+        check_instruction(limits, start as usize + 6 * index, *six)?;
     }
     Ok(())
 }
 
-fn check_thread(bytes: &[u8], thread: u8) -> Result<(), TableFault>
-    ensures { result ≡ thread_fault bytes.now thread }
+/// Checks the instructions of one thread.
+#[tactic(auto, using(crate::proofs::Sixes::thread_sixes))]
+fn check_thread(layout: &Layout<'_>, thread: u8) -> Result<(), TableFault>
+    requires { thread < slice_index layout.now.bytes.now 2 }
+    ensures { result ≡ thread_fault layout.now.bytes.now thread }
 {
-    check_code(
-        bytes,
-        limits(bytes, thread),
-        position(bytes, thread),
-        count(bytes, thread),
-    )
+    let start = layout.entry(thread).position;
+    check_code(layout.limits(thread), start, layout.code(thread))
 }
 
-fn check_threads(bytes: &[u8], threads: u8) -> Result<(), TableFault>
-    ensures { result ≡ codes_fault bytes.now 0 threads }
+/// Checks the instructions of all threads, one thread after another.
+#[tactic(auto, using(crate::proofs::Entries::left))]
+fn check_threads(layout: &Layout<'_>) -> Result<(), TableFault>
+    ensures { result ≡ codes_fault layout.now.bytes.now 0 (slice_index layout.now.bytes.now 2) }
 {
-    for thread in 0..threads {
-        check_thread(bytes, thread)?;
+    // A thread's number finds its limits, its entry and its code.
+    for thread in 0..layout.threads() {
+        check_thread(layout, thread)?;
     }
     Ok(())
 }
@@ -186,14 +110,16 @@ pub(crate) fn check(bytes: &[u8]) -> Result<(), TableFault>
     ensures { result ≡ table_fault bytes.now }
 {
     let length = bytes.len();
-    require(6 <= length, TableFault::Length { length })?;
-    check_header(bytes)?;
-    let threads = byte(bytes, 2);
+    let Some(header) = bytes.first_chunk::<6>() else {
+        return Err(TableFault::Length { length });
+    };
+    let kind = check_header(*header)?;
+    let threads = header[2];
     require(
         6 + 4 * threads as usize <= length,
         TableFault::Length { length },
     )?;
-    let end = end_of_code(bytes, kind(bytes), threads)?;
+    let end = check_entries(bytes, kind, threads)?;
     require(end == length, TableFault::Length { length })?;
-    check_threads(bytes, threads)
+    check_threads(&Layout { bytes })
 }

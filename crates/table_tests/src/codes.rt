@@ -78,8 +78,7 @@ fn every_op_reads_back(rt: HostRuntime) -> Result<(), Fail> {
     let Ok(table) = Table::read(bytes.as_slice()) else {
         return Err(Fail::new("the table of every op is refused"));
     };
-    for place in 0..17 {
-        let (_, text) = EVERY_OP[place as usize];
+    for (place, (_, text)) in (0..).zip(EVERY_OP) {
         let Some(instruction) = table.instruction(0, place) else {
             return Err(Fail::new(text));
         };

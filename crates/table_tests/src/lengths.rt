@@ -4,6 +4,7 @@ use std::test::Fail;
 
 #[test]
 fn short_tables(rt: HostRuntime) {
+    // The number is the length, and the place of the refusal.
     for length in 0..16 {
         assert_eq!(rt; refused(&LEAST[..length]), Some((1, length)));
     }

@@ -1,5 +1,5 @@
 //! Tables to read, and what the reader says of them.
-use model::faults::Layer;
+use model::faults::{Layer, Refusal};
 use std::alloc::{AllocError, Global};
 use table::view::Table;
 
@@ -11,16 +11,14 @@ pub(crate) const LEAST_TRANSLATED: [u8; 16] = [1, 1, 1, 1, 1, 1, 10, 0, 1, 0, 11
 
 pub(crate) const FENCE: [u8; 6] = [11, 0, 0, 0, 0, 0];
 
-/// Number and place of the refusal; none where the bytes are accepted, or another layer refuses.
+/// Number and place of the refusal, since those are the published ones; none where the bytes are accepted, or another
+/// layer refuses.
 pub(crate) fn refused(bytes: &[u8]) -> Option<(u8, usize)> {
     let Err(fault) = Table::read(bytes) else {
         return None;
     };
-    let refusal = fault.refusal();
-    match refusal.layer {
-        Layer::Table => Some((refusal.number, refusal.place)),
-        _ => None,
-    }
+    let refusal = Refusal::from(fault);
+    (refusal.layer == Layer::Table).then_some((refusal.number, refusal.place))
 }
 
 /// The table with one byte changed.
@@ -41,9 +39,7 @@ pub(crate) fn with_code(mut table: [u8; 16], code: [u8; 6]) -> [u8; 16] {
 pub(crate) fn repeated(heap: Global, table: [u8; 16], count: u16) -> Result<Vec<u8>, AllocError> {
     let mut bytes = table[..8].to_vec(heap)?;
     bytes.extend_from_slice(&count.to_le_bytes())?;
-    for _ in 0..count {
-        bytes.extend_from_slice(&table[10..])?;
-    }
+    bytes.extend_from_slice(table[10..].repeat(heap, count as usize)?.as_slice())?;
     Ok(bytes)
 }
 

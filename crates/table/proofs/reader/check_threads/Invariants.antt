@@ -5,4 +5,4 @@ use Rattle.table.proofs.reader.check_threads.Given as goal
 -- what is left to check gives the result
 abbrev pub invariant-loop-thread : goal.invariant-loop-thread
 invariant-loop-thread l =
-    codes_fault l.bytes l.thread (l.threads - l.thread) ≡ codes_fault l.bytes 0 l.threads
+    codes_fault l.layout.bytes.now l.thread (l.thread-end - l.thread) ≡ codes_fault l.layout.bytes.now 0 l.thread-end
