@@ -1,4 +1,4 @@
--- The store-buffer machine: it runs source tables over a memory, whose pending stores are the threads' queues.
+-- How cores with queues run a source table: what is pending in a memory is what the queue of each core still holds.
 use Rattle.std.specs.Prelude.{ℕ, ◌+◌, ◌*◌, ◌/◌, ◌%◌, max, Bool, true, false, if◌then◌else◌, ◌&&◌, List, [], ◌∷◌, length, take, replicate, Some, None, Ok, Err, Option, Result, ◌==◌, nat_le, nat_lt, slice_index, slice_set}
 use Rattle.model.specs.Steps.{and_then}
 use Rattle.model.specs.Action.{Action, stuck, quiet, reads, writes, fences, swaps, opens, shuts, about, can_go}
@@ -107,7 +107,7 @@ line p m l =
     if nat_lt l.thread (length p.code) then and_then (moved p m l.thread l.act) (λ r. Ok (advanced m l.thread r))
     else Err (machine.NoThread l.thread)
 
--- a schedule is accepted if every line is granted
+-- line after line, up to the first refusal
 abbrev pub lines : Program → Machine → List Line → Result Machine MachineFault
 lines p m [] = Ok m
 lines p m (l ∷ ls) = and_then (line p m l) (λ n. lines p n ls)
@@ -121,7 +121,7 @@ abbrev pub deepest : Program → Machine → List Line → ℕ
 deepest p m [] = longest m.memory.pending
 deepest p m (l ∷ ls) = max (longest m.memory.pending) (elim (line p m l) [ Ok n ↦ deepest p n ls | Err f ↦ 0 ])
 
--- a line as a byte, thread + 4 × kind: kinds 0 and 1 step by that way, kind 2 drains
+-- a number for what is asked of a thread: 0 to go on, 1 to go aside, 2 to write its oldest store
 abbrev pub kind_of_act : Act → ℕ
 kind_of_act (Step Next) = 0
 kind_of_act (Step Aside) = 1
