@@ -37,7 +37,7 @@ fn main(rt: HostRuntime) -> anyhow::Result<()> {
         .parse::<u64>()?;
     let mut bytes = Vec::new(rt.alloc());
     rt.stdin().read_to_end(&mut bytes)?;
-    let table = Table::read(&bytes).map_err(|fault| anyhow!("no table: {fault}"))?;
+    let table = Table::read(&bytes).map_err(|_| anyhow!("no table"))?;
     let sum = turns(table, count).context("a step was refused")?;
     println!(rt; "{sum}")?;
     Ok(())

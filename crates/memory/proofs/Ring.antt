@@ -24,20 +24,25 @@ same_maps f g a b n same =
     let here : k < n = omega (arith, length-map-range_with_len f a n) in
     get_or-map-range_with_len f a n k (a + k) d here refl ∙ same k here ∙ sym (get_or-map-range_with_len g b n k (b + k) d here refl)))
 
+-- a write at no place of the ring leaves it
+pub ring_apart : (ps : List Store) (t at : ℕ) (s : Store) (n head : ℕ) → ((i : ℕ) → i < n → place t (head + i) ≢ at) → ring (set ps at s) t head n ≡ ring ps t head n
+ring_apart ps t at s n head apart =
+    same_maps _ (λ i. get_or ps (place t (head + i)) no_store) 0 0 n
+    (λ k l. get_or-set_other ps at (place t (head + (0 + k))) s no_store
+    (λ e. let here : head + k ≡ head + (0 + k) = omega arith in apart k l (ap (place t) here ∙ e)))
+
 -- a write at the place after the last
-ring_push : (ps : List Store) (t : ℕ) (s : Store) (head n : ℕ) → t < 4 → n < 64 → length ps ≡ 256 → ring (set ps (place t (head + n)) s) t head (n + 1) ≡ ring ps t head n ++ s ∷ []
+pub ring_push : (ps : List Store) (t : ℕ) (s : Store) (head n : ℕ) → t < 4 → n < 64 → length ps ≡ 256 → ring (set ps (place t (head + n)) s) t head (n + 1) ≡ ring ps t head n ++ s ∷ []
 ring_push ps t s head n lt few long =
     let within : place t (head + n) < length ps = omega arith in
     map-range_with_len_more (λ k. get_or (set ps (place t (head + n)) s) (place t (head + k)) no_store) 0 n n (omega arith)
     ∙ ap (λ (o : Store). ring (set ps (place t (head + n)) s) t head n ++ o ∷ []) (get_or-set_same ps (place t (head + n)) s no_store within)
-    ∙ ap (λ (ss : List Store). ss ++ s ∷ []) (same_maps _ (λ k. get_or ps (place t (head + k)) no_store) 0 0 n
-    (λ k l. get_or-set_other ps (place t (head + n)) (place t (head + (0 + k))) s no_store (λ e. omega arith)))
+    ∙ ap (λ (ss : List Store). ss ++ s ∷ []) (ring_apart ps t (place t (head + n)) s n head (λ i l e. omega arith))
 
 -- a write at a place of another thread
-ring_other : (ps : List Store) (t k : ℕ) (s : Store) (steps head n : ℕ) → k ≢ t → ring (set ps (place t steps) s) k head n ≡ ring ps k head n
+pub ring_other : (ps : List Store) (t k : ℕ) (s : Store) (steps head n : ℕ) → k ≢ t → ring (set ps (place t steps) s) k head n ≡ ring ps k head n
 ring_other ps t k s steps head n ne =
-    same_maps _ (λ i. get_or ps (place k (head + i)) no_store) 0 0 n
-    (λ i l. get_or-set_other ps (place t steps) (place k (head + (0 + i))) s no_store (λ e. ne (omega arith)))
+    ring_apart ps k (place t steps) s n head (λ i l e. ne (omega arith))
 
 -- the first store of a ring, and the ring behind it
 pub ring_first : (ps : List Store) (t head n : ℕ) → 0 < n → ring ps t head n ≡ get_or ps (place t (head + 0)) no_store ∷ ring ps t ((head + 1) % 64) (n - 1)
@@ -61,7 +66,7 @@ one_anew ps qs ss us t lt y here there =
     ∙ sym (get_or-set_other (rings ps ss) t k y d ne))
     (cases_eq k t))
 
--- a store at the first free place of a thread, and the oldest one handed out
+-- a store at the first free place of a thread, and the oldest one gone
 module _ (ps : List Store) (ss : List Span) (t : ℕ) (lt : t < 4) (sp : Span) (four : length ss ≡ 4) where
   pub stored : (s : Store) (at : ℕ) → at ≡ place t ((span_of ss t).head + (span_of ss t).count) → sp.head ≡ (span_of ss t).head → sp.count ≡ (span_of ss t).count + 1 → (span_of ss t).count < 64 → length ps ≡ 256 → rings (set ps at s) (set ss t sp) ≡ set (rings ps ss) t (queue (rings ps ss) t ++ s ∷ [])
   stored s at free head count few long =
@@ -80,7 +85,7 @@ module _ (ps : List Store) (ss : List Span) (t : ℕ) (lt : t < 4) (sp : Span) (
       rw (get_or-set_other ss t k sp no_span ne) refl)
 
 -- the last store to a word decides
-latest_push : (ss : List Store) (s : Store) (x v : ℕ) → latest (ss ++ s ∷ []) x v ≡ cond (s.word == x) s.value (latest ss x v)
+pub latest_push : (ss : List Store) (s : Store) (x v : ℕ) → latest (ss ++ s ∷ []) x v ≡ cond (s.word == x) s.value (latest ss x v)
 latest_push [] s x v = refl
 latest_push (o ∷ ss) s x v = latest_push ss s x (cond (o.word == x) o.value v)
 

@@ -1,9 +1,8 @@
 -- Four rings of 64 places, one for each thread: what they hold.
-use Rattle.std.specs.Prelude.{ℕ, ◌+◌, ◌*◌, ◌%◌, List, [], ◌∷◌, map, Some, Ok, Err, slice_index_or}
+use Rattle.std.specs.Prelude.{ℕ, ◌+◌, ◌*◌, ◌%◌, List, [], map, Some, slice_index_or}
 use Rattle.std.specs.List.{range_with_len}
 use Rattle.std.proofs.Common.{lit<, lit≤}
-use Rattle.model.specs.Memory.{Memory, Answer}
-use Rattle.model.specs.declared.faults.MemoryFault.TheVariants.{Empty}
+use Rattle.model.specs.Memory.{Memory}
 use Rattle.model.specs.declared.state.Store.{Store}
 use Rattle.memory.specs.declared.span.Span.{Span}
 
@@ -37,8 +36,3 @@ queue_value ws ls = record { words = ws; pending = ls; depth = Some 64 }
 -- the pending stores of a thread, oldest first
 abbrev pub queue : List (List Store) → ℕ → List Store
 queue ls t = slice_index_or ls t []
-
--- the first of a thread's stores, if there is one
-abbrev pub oldest : ℕ → List Store → Answer Store
-oldest t [] = Err (Empty t)
-oldest t (s ∷ ss) = Ok s

@@ -60,8 +60,7 @@ impl SharedMemory for QueueMemory {
     }
 
     fn drain(&mut self, thread: u8) -> Result<(), MemoryFault> {
-        let Store { word, value } = self.rings.take_oldest(thread)?;
-        self.words.set(word, value)
+        self.rings.write_oldest(thread, &mut self.words)
     }
 
     fn exchange(&mut self, word: u8, expected: u8, new: u8) -> Result<bool, MemoryFault> {

@@ -1,13 +1,14 @@
 //! The pending stores of four threads, in four rings of 64 places.
-ghost use Rattle.std.specs.Prelude.{◌≡◌, ◌+◌, ◌<◌, List, [], ◌∷◌, ◌++◌, IfOk, IfErr, drop, length, nat_lt, replicate, slice_set};
+ghost use Rattle.std.specs.Prelude.{◌≡◌, ◌+◌, ◌<◌, List, [], ◌∷◌, ◌++◌, IfOk, IfErr, length, nat_lt, replicate, slice_set};
 ghost use Rattle.std.specs.List.{All};
-ghost use Rattle.model.specs.Memory.{latest as latest_store, thread_there, word_there};
+ghost use Rattle.model.specs.Memory.{drain, latest as latest_store, left, said, thread_there, word_there};
 ghost use Rattle.model.specs.Steps.{and_then, demand};
 ghost use Rattle.model.specs.declared.state.Store.{Store};
-ghost use Rattle.memory.specs.Rings.{place as place_of, rings, queue, oldest, span_of as span_at};
+ghost use Rattle.memory.specs.Rings.{place as place_of, rings, queue, queue_value};
 
 use crate::bounds::{check_thread, check_word};
 use crate::span::Span;
+use crate::words::Words;
 use model::faults::MemoryFault;
 use model::numbers::require;
 use model::state::Store;
@@ -32,17 +33,12 @@ impl Model for Rings {
 fn place(thread: u8, head: u8, steps: u8) -> usize
     ensures { result ≡ place_of thread (head + steps) }
 {
-    64 * thread as usize + (head as usize + steps as usize) % 64
+    // The sum may wrap around, since 64 divides 256.
+    64 * thread as usize + (head.wrapping_add(steps) % 64) as usize
 }
 
-/// The places that a thread uses.
-fn span_of(spans: &[Span; 4], thread: u8) -> Result<Span, MemoryFault>
-    ensures { result ≡ and_then (thread_there thread) (λ _. Ok (span_at spans.now thread)) }
-{
-    check_thread(thread)?;
-    Ok(spans[thread as usize])
-}
-
+// The parts of a span and of a store are read one by one, as they are written: read at once they wait for the writes, and a
+// put with its drain was measured at twice the time.
 impl Rings {
     /// Nothing pending.
     pub(crate) fn new() -> Rings
@@ -65,7 +61,8 @@ impl Rings {
     pub(crate) fn count(&self, thread: u8) -> Result<u8, MemoryFault>
         ensures { result ≡ and_then (thread_there thread) (λ _. Ok (length (queue self.now thread))) }
     {
-        Ok(span_of(&self.spans, thread)?.count)
+        check_thread(thread)?;
+        Ok(self.spans[thread as usize].count)
     }
 
     /// A store takes the first free place of its thread.
@@ -74,7 +71,8 @@ impl Rings {
         ensures stored { IfOk result (λ _. self.new ≡ slice_set self.old thread (queue self.old thread ++ store ∷ [])) }
         ensures refused { IfErr result (λ _. self.new ≡ self.old) }
     {
-        let Span { head, count } = span_of(&self.spans, thread)?;
+        check_thread(thread)?;
+        let Span { head, count } = self.spans[thread as usize];
         check_word(store.word)?;
         require(count < 64, MemoryFault::Full { thread })?;
         self.places[place(thread, head, count)] = store;
@@ -85,27 +83,29 @@ impl Rings {
         Ok(())
     }
 
-    /// The oldest store of a thread is handed out, and its place is free.
-    pub(crate) fn take_oldest(&mut self, thread: u8) -> Result<Store, MemoryFault>
-        ensures answer { result ≡ and_then (thread_there thread) (λ _. oldest thread (queue self.old thread)) }
-        ensures taken { IfOk result (λ _. self.new ≡ slice_set self.old thread (drop 1 (queue self.old thread))) }
-        ensures word { IfOk result (λ s. s.word < 8) }
-        ensures refused { IfErr result (λ _. self.new ≡ self.old) }
+    /// The oldest store of a thread is written to the words, and its place is free.
+    pub(crate) fn write_oldest(&mut self, thread: u8, words: &mut Words) -> Result<(), MemoryFault>
+        ensures answer { result ≡ said (drain (queue_value words.old self.old) thread) }
+        ensures after { queue_value words.new self.new ≡ left (queue_value words.old self.old) (drain (queue_value words.old self.old) thread) }
     {
-        let Span { head, count } = span_of(&self.spans, thread)?;
+        check_thread(thread)?;
+        let Span { head, count } = self.spans[thread as usize];
         require(count > 0, MemoryFault::Empty { thread })?;
+        let Store { word, value } = self.places[place(thread, head, 0)];
+        words.set(word, value)?;
         self.spans[thread as usize] = Span {
             head: (head + 1) % 64,
             count: count - 1,
         };
-        Ok(self.places[place(thread, head, 0)])
+        Ok(())
     }
 
     /// The value of a thread's newest store to a word, or else what the word holds.
     pub(crate) fn latest(&self, thread: u8, word: u8, held: u8) -> Result<u8, MemoryFault>
         ensures { result ≡ and_then (thread_there thread) (λ _. Ok (latest_store (queue self.now thread) word held)) }
     {
-        let Span { head, count } = span_of(&self.spans, thread)?;
+        check_thread(thread)?;
+        let Span { head, count } = self.spans[thread as usize];
         // A loop: of the chain `(0..count).rev().map(..).find(..)` the contract was not proved.
         for steps in (0..count).rev() {
             let store = self.places[place(thread, head, steps)];

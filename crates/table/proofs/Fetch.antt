@@ -1,11 +1,11 @@
 -- What a table's code holds at a thread and a place.
-use Rattle.std.proofs.Common.{◌≡◌, ℕ, zero, suc, ◌+◌, ◌<◌, ◌≤◌, List, [], length, get_or, Some, None, sym, refl, ap, ◌∙◌, arith}
+use Rattle.std.proofs.Common.{◌≡◌, ℕ, zero, suc, ◌+◌, ◌*◌, ◌<◌, ◌≤◌, List, [], length, get_or, Some, None, sym, refl, ap, ◌∙◌, arith}
 use Rattle.std.specs.List.{slice_get}
 use Rattle.std.specs.Option.{option_map}
 use Rattle.std.proofs.lemmas.List.{get_or_past}
 use Rattle.std.proofs.lemmas.Option.{slice_get-get_or, slice_get_past}
 use Rattle.model.specs.declared.code.Instruction.{Instruction}
-use Rattle.model.specs.Table.{position, count, code_at, codes_at, fetch, program_of}
+use Rattle.model.specs.Table.{position, count, instruction_at, code_at, codes_at, fetch, program_of}
 use Rattle.table.specs.Sixes.{sixes, six_spells}
 use Rattle.table.proofs.Sixes.{place_six}
 
@@ -17,12 +17,22 @@ pub length_codes : (bs : List ℕ) (thread n : ℕ) → length (codes_at bs thre
 length_codes bs thread zero = refl
 length_codes bs thread (suc n) = ap suc (length_codes bs (thread + 1) n)
 
-thread_code : (bs : List ℕ) (thread n i j : ℕ) → i < n → j ≡ thread + i → get_or (codes_at bs thread n) i [] ≡ code_at bs (position bs j) (count bs j)
+pub thread_code : (bs : List ℕ) (thread n i j : ℕ) → i < n → j ≡ thread + i → get_or (codes_at bs thread n) i [] ≡ code_at bs (position bs j) (count bs j)
 thread_code bs thread zero i j h e = absurd (omega arith)
 thread_code bs thread (suc n) zero j h e =
     let same : j ≡ thread = omega arith in
     rw same refl
 thread_code bs thread (suc n) (suc i) j h e = thread_code bs (thread + 1) n i j (omega arith) (omega arith)
+
+-- the instruction at a place is the one that six bytes spell where they stand
+pub place_instruction : (bs : List ℕ) (at n i : ℕ) → i < n → slice_get (code_at bs at n) i ≡ Some (instruction_at bs (at + 6 * i))
+place_instruction bs at zero i h = absurd (omega arith)
+place_instruction bs at (suc n) zero h =
+    let same : at ≡ at + 6 * 0 = omega arith in
+    ap (λ (a : ℕ). Some (instruction_at bs a)) same
+place_instruction bs at (suc n) (suc i) h =
+    let same : (at + 6) + 6 * i ≡ at + 6 * suc i = omega arith in
+    place_instruction bs (at + 6) n i (omega arith) ∙ ap (λ (a : ℕ). Some (instruction_at bs a)) same
 
 module _ (bs : List ℕ) (thread : ℕ) where
   code_of : thread < get_or bs 2 0 → get_or (codes_at bs 0 (get_or bs 2 0)) thread [] ≡ code_at bs (position bs thread) (count bs thread)

@@ -3,3 +3,4 @@ mod Entries
 pub mod Fetch
 mod Fours
 mod Sixes
+mod Walk

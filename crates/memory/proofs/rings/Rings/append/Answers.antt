@@ -1,8 +1,9 @@
 -- Written, since the check does not find that three lists stay and one grows.
-use Rattle.std.proofs.Common.{◌≡◌, ◌<◌, List, [], ◌∷◌, ◌++◌, set, ap, ◌∙◌, refl, rules, arith}
+use Rattle.std.proofs.Common.{◌≡◌, ◌<◌, List, [], ◌∷◌, ◌++◌, get_or, set, ap, ◌∙◌, refl, rules, arith}
 use Rattle.std.proofs.lemmas.Grind.{common_steps}
+use Rattle.std.proofs.lemmas.List.{get_or_default}
 use Rattle.model.specs.declared.state.Store.{Store}
-use Rattle.memory.specs.Rings.{span_of, queue}
+use Rattle.memory.specs.Rings.{no_span, span_of, queue}
 use Rattle.memory.proofs.Ring.{length_queue, stored}
 use Rattle.memory.proofs.rings.Rings.append.Goals as goal
 
@@ -18,7 +19,8 @@ returns-clause-stored c =
     let ss = c.self.inside.spans in
     let t = c.args.thread in
     let lt : t < 4 = search rules in
-    let is : span_of ss t ≡ c.in_ok-head.field-0 = search rules in
-    let few : (span_of ss t).count < 64 = grind (arith, common_steps) in
-    stored ps ss t lt _ (search rules) c.args.store c.place.result (rw is c.place.ensures) (rw is refl) (rw is refl) few (search rules)
+    let head : get_or ss t c.index-self-thread.result ≡ span_of ss t = get_or_default ss t _ no_span (omega arith) in
+    let count : get_or ss t c.index-self-thread-2.result ≡ span_of ss t = get_or_default ss t _ no_span (omega arith) in
+    let few : (span_of ss t).count < 64 = grind (arith, common_steps, count) in
+    stored ps ss t lt _ (search rules) c.args.store c.place.result (c.place.ensures ∙ rw (head, count) refl) (rw head refl) (rw count refl) few (search rules)
     ∙ ap (λ (ls : List (List Store)). set ls t (queue ls t ++ c.args.store ∷ [])) c.self.view_is
