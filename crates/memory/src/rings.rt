@@ -37,8 +37,8 @@ fn place(thread: u8, head: u8, steps: u8) -> usize
     64 * thread as usize + (head.wrapping_add(steps) % 64) as usize
 }
 
-// The parts of a span and of a store are read one by one, as they are written: read at once they wait for the writes, and a
-// put with its drain was measured at twice the time.
+// A span is read part by part, and the oldest store too, as they are written: read whole they wait for the writes, and a put
+// with its drain was measured at twice the time.
 impl Rings {
     /// Nothing pending.
     pub(crate) fn new() -> Rings
